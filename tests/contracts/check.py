@@ -15,7 +15,7 @@ import sys
 
 HERE = os.path.dirname(os.path.abspath(__file__))
 TOP = os.path.dirname(os.path.dirname(HERE))
-VERDICTS = {"same", "stronger", "refused instead of required", "different", "left out", "to come"}
+VERDICTS = {"same", "stronger", "refused instead of required", "different", "left out"}
 # a verdict that says the clause is given here must say by what
 GIVEN = {"same", "stronger", "refused instead of required", "different"}
 CITED = re.compile(r"`([a-z_0-9]+(?:\.[^\s`.]+){2,})`")
@@ -37,9 +37,9 @@ def declared(crate, path, name):
 
 
 def faults(page, upstream):
-    """What is wrong with the page, and how many rows, names and open rows it has."""
+    """What is wrong with the page, and how many rows and names it has."""
     found, names = [], set()
-    counts, states = collections.Counter(), collections.Counter()
+    counts = collections.Counter()
     section = None
     for number, line in enumerate(page.split("\n"), 1):
         if line.startswith("## "):
@@ -50,15 +50,12 @@ def faults(page, upstream):
             continue
         function, _, here, verdict, reason = cells
         counts[section, function.strip("`")] += 1
-        states[verdict] += 1
         if verdict not in VERDICTS:
             found.append(f"line {number}: the verdict '{verdict}' is none of those that the page explains")
         if verdict in GIVEN and not CITED.search(here):
             found.append(f"line {number}: '{verdict}', and nothing is cited that gives the clause")
         if verdict in ("different", "left out") and not reason:
             found.append(f"line {number}: '{verdict}', and no reason is given")
-        if verdict == "to come" and section != "overflow.rs":
-            found.append(f"line {number}: 'to come' in {section}")
     wanted = {}
     for line in upstream.split("\n"):
         if line and not line.startswith("#"):
@@ -73,7 +70,7 @@ def faults(page, upstream):
         crate, *path, last = name.split(".")
         if not declared(crate, path, last):
             found.append(f"line {number}: `{name}` does not stand in the crates")
-    return found, sum(counts.values()), len({n for _, n in names}), states["to come"]
+    return found, sum(counts.values()), len({n for _, n in names})
 
 
 def tried(page, upstream):
@@ -92,7 +89,7 @@ def main():
         page = f.read()
     with open(os.path.join(HERE, "upstream.txt"), encoding="utf-8") as f:
         upstream = f.read()
-    found, rows, names, open_rows = faults(page, upstream)
+    found, rows, names = faults(page, upstream)
     for fault in found:
         print(f"docs/CONTRACTS.md: {fault}", file=sys.stderr)
     if not found and not tried(page, upstream):
@@ -100,7 +97,7 @@ def main():
         print("tests/contracts/check.py: a damaged page passes", file=sys.stderr)
     if found:
         sys.exit(1)
-    print(f"contracts: {rows} rows, {open_rows} of them to come, {names} names cited, all found")
+    print(f"contracts: {rows} rows, {names} names cited, all found")
 
 
 if __name__ == "__main__":

@@ -1,0 +1,9 @@
+-- The laws on checked values, each file standing on those above it. `Promises` states what the functions promise.
+pub mod Limit
+pub mod Powers
+pub mod Logarithms
+pub mod Standing
+pub mod Promises
+pub mod Unique
+pub mod overflow
+pub mod Examples

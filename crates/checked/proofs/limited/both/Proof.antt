@@ -1,0 +1,25 @@
+-- `limited::both` meets its contract.
+-- Assumes nothing.
+use borrow.Author.Needs.{needs}
+use Rattle.checked.specs.Value.{bothOf}
+use Rattle.checked.proofs.Limit.{at}
+use Rattle.checked.proofs.limited.both.Statement.{statement}
+use Rattle.checked.proofs.limited.both.Tie as tie
+
+enum-known-a : tie.Need-enum-known-a
+enum-known-a c = search needs
+
+beside-requires : tie.Need-beside-requires
+beside-requires c κs = search needs
+
+enum-told : tie.Need-enum-told
+enum-told c = search needs
+
+returns : tie.Need-returns
+returns c = let g = c .before .before .before .before .args in at (λ v. bothOf v (g .b)) (c .beside .ensures) (c .before .before .a .given .1)
+
+returns-2 : tie.Need-returns-2
+returns-2 c = search needs
+
+pub both-spec : {M : Type 1} → statement M
+both-spec = tie.close (tie.spec enum-known-a beside-requires enum-told returns returns-2)

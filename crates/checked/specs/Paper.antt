@@ -1,0 +1,98 @@
+-- What an operation answers, in numbers: the refusal's number and place, or 0 and 0 with the value's mark and number.
+-- Assumes nothing.
+use mathlib.Core.Bool.{cond}
+use Prim.Native.Nat.{ℕ, _/_, _%_, _^_}
+use lib.Dec.{eqb, ltb}
+use Rattle.whole.specs.logarithm.{log-of}
+use Rattle.checked.specs.declared.refusal.Refusal.{Refusal}
+use Rattle.checked.specs.declared.refusal.Refusal.the-variants as refusal
+use Rattle.checked.specs.declared.types.Answer64.{Answer64}
+use Rattle.checked.specs.declared.types.Answer64.the-variants as answer
+use Rattle.checked.specs.declared.types.Plain64.{Plain64}
+use Rattle.checked.specs.declared.types.Plain64.the-variants as plain64
+use Rattle.checked.specs.declared.types.Both.{Both}
+use Rattle.checked.specs.declared.types.Both.the-variants as both
+use Rattle.checked.specs.declared.types.Checked64.the-variants.{Fits, Overflowed}
+use Rattle.checked.specs.Value.{Value, checkedOf, bothOf}
+
+pub record Paper : Type 0 where
+  pub code : ℕ
+  pub place : ℕ
+  pub mark : ℕ
+  pub number : ℕ
+
+-- the number of each refusal
+abbrev pub numberOf : Refusal → ℕ
+numberOf refusal.DivisorZero = 1
+numberOf refusal.BaseBelowTwo = 2
+numberOf refusal.Overflowed = 3
+numberOf refusal.QuotientTooLarge = 4
+numberOf refusal.UnknownWidth = 5
+numberOf refusal.LengthsDiffer = 6
+numberOf refusal.ItemCount = 7
+numberOf refusal.UnknownKind = 8
+numberOf refusal.LiteralTooLarge = 9
+numberOf refusal.TooFewOnHand = 10
+numberOf refusal.HandFull = 11
+numberOf refusal.SeveralLeft = 12
+numberOf refusal.NoneLeft = 13
+numberOf refusal.FieldEmpty = 14
+numberOf refusal.BadMark = 15
+numberOf refusal.BlockLength = 16
+numberOf refusal.WrongCheck = 17
+numberOf refusal.BadLayout = 18
+numberOf refusal.ListTooShort = 19
+numberOf refusal.AllowanceSpent = 20
+
+abbrev pub refused : ℕ → Paper
+refused n = record { code = n; place = 0; mark = 0; number = 0 }
+
+abbrev pub given : Value → Paper
+given (Fits n) = record { code = 0; place = 0; mark = 0; number = n }
+given Overflowed = record { code = 0; place = 0; mark = 1; number = 0 }
+
+abbrev pub paper : Answer64 → Paper
+paper (answer.Value c) = given c
+paper (answer.Refused r) = refused (numberOf r)
+
+abbrev pub plain : Plain64 → Paper
+plain (plain64.Number n) = given (Fits n)
+plain (plain64.Refused r) = refused (numberOf r)
+
+-- ---- on numbers
+
+abbrev pub dividedBy : ℕ → ℕ → Paper
+dividedBy l r = cond (eqb r 0) (refused 1) (given (Fits (l / r)))
+
+abbrev pub leftBy : ℕ → ℕ → Paper
+leftBy l r = cond (eqb r 0) (refused 1) (given (Fits (l % r)))
+
+abbrev pub powersOf : ℕ → ℕ → ℕ → Paper
+powersOf M l r = given (checkedOf M (l ^ r))
+
+abbrev pub logOf : ℕ → ℕ → Paper
+logOf l r = cond (ltb l 2) (refused 2) (given (Fits (log-of l r)))
+
+-- ---- on checked values
+
+-- an overflowed operand is refused with 3 before anything else is looked at
+abbrev pub onBoth : (ℕ → ℕ → Paper) → Both → Paper
+onBoth f (both.Numbers l r) = f l r
+onBoth f both.Overflowed = refused 3
+
+abbrev pub quotientOf : Value → Value → Paper
+quotientOf a b = onBoth dividedBy (bothOf a b)
+
+abbrev pub remainderOf : Value → Value → Paper
+remainderOf a b = onBoth leftBy (bothOf a b)
+
+abbrev pub powerOf : ℕ → Value → Value → Paper
+powerOf M a b = onBoth (powersOf M) (bothOf a b)
+
+abbrev pub logarithmOf : Value → Value → Paper
+logarithmOf a b = onBoth logOf (bothOf a b)
+
+-- the plain number of a value
+abbrev pub plainOf : Value → Paper
+plainOf (Fits n) = given (Fits n)
+plainOf Overflowed = refused 3

@@ -1,0 +1,247 @@
+// The operations over a limit that is given as a number: the four widths share them, and so does whoever learns the width only
+// when running.
+use crate::refusal::Refusal;
+use crate::types::Answer64;
+use crate::types::Both;
+use crate::types::Checked64;
+ghost use mathlib.Core.Path.{_≡_};
+ghost use Prim.Native.Nat.{ℕ, _+_, _*_, _^_, _<_};
+ghost use Rattle.whole.specs.logarithm.{log-of};
+ghost use Rattle.checked.specs.declared.types.Checked64.the-variants.{Fits, Overflowed};
+ghost use Rattle.checked.specs.Value.{checkedOf, sumOf, productOf, bothOf};
+ghost use Rattle.checked.specs.Paper.{paper, refused, quotientOf, remainderOf, powerOf, logarithmOf, dividedBy, leftBy, logOf};
+
+// ---- on numbers
+
+// The checked value of a number.
+pub fn checked_of(limit: u64, n: u64) -> Checked64
+    ensures { λ r. ⌜ r ≡ checkedOf limit n ⌝ }
+{
+    if n <= limit {
+        Checked64::Fits(n)
+    } else {
+        Checked64::Overflowed
+    }
+}
+
+// The sum of two numbers: what is left below the limit is compared, so that nothing wraps.
+pub fn checked_add(limit: u64, a: u64, b: u64) -> Checked64
+    ensures { λ r. ⌜ r ≡ checkedOf limit (a + b) ⌝ }
+{
+    if a <= limit {
+        if b <= limit - a {
+            return Checked64::Fits(a + b);
+        }
+    }
+    Checked64::Overflowed
+}
+
+// The product of two numbers: b is compared with the largest factor that a has below the limit.
+pub fn checked_mul(limit: u64, a: u64, b: u64) -> Checked64
+    ensures { λ r. ⌜ r ≡ checkedOf limit (a * b) ⌝ }
+{
+    if a == 0 {
+        return Checked64::Fits(0);
+    }
+    if b <= limit / a {
+        return Checked64::Fits(a * b);
+    }
+    Checked64::Overflowed
+}
+
+// The quotient of two numbers.
+pub fn checked_div(a: u64, b: u64) -> Answer64
+    ensures { λ r. ⌜ paper r ≡ dividedBy a b ⌝ }
+{
+    if b == 0 {
+        return Answer64::Refused(Refusal::DivisorZero);
+    }
+    Answer64::Value(Checked64::Fits(a / b))
+}
+
+// The remainder of two numbers.
+pub fn checked_rem(a: u64, b: u64) -> Answer64
+    ensures { λ r. ⌜ paper r ≡ leftBy a b ⌝ }
+{
+    if b == 0 {
+        return Answer64::Refused(Refusal::DivisorZero);
+    }
+    Answer64::Value(Checked64::Fits(a % b))
+}
+
+// The power of two numbers, a binary digit of the exponent at a time. The last square is not worked out, so that a square
+// which nobody needs can't overflow.
+pub fn checked_pow(limit: u64, base: u64, exponent: u64) -> Checked64
+    ensures { λ r. ⌜ r ≡ checkedOf limit (base ^ exponent) ⌝ }
+{
+    let mut first = checked_of(limit, 1);
+    let mut second = checked_of(limit, base);
+    let mut left = exponent;
+    while 1 < left {
+        if left % 2 == 1 {
+            first = mul_checked(limit, first, second);
+        }
+        second = mul_checked(limit, second, second);
+        left = left / 2;
+    }
+    if left == 1 {
+        return mul_checked(limit, first, second);
+    }
+    first
+}
+
+// The logarithm of two numbers.
+pub fn checked_log(base: u64, n: u64) -> Answer64
+    ensures { λ r. ⌜ paper r ≡ logOf base n ⌝ }
+{
+    if base < 2 {
+        return Answer64::Refused(Refusal::BaseBelowTwo);
+    }
+    Answer64::Value(Checked64::Fits(floor_log(base, n)))
+}
+
+// How often n can be divided by the base, by multiplying up: one division in all.
+fn floor_log(base: u64, n: u64) -> u64
+    requires { ⌜ 1 < base ⌝ }
+    ensures { λ e. ⌜ e ≡ log-of base n ⌝ }
+{
+    if n < base {
+        return 0;
+    }
+    let most = n / base;
+    let mut power: u64 = 1;
+    let mut count: u64 = 0;
+    while power <= most {
+        power = power * base;
+        count = count + 1;
+    }
+    count
+}
+
+// ---- on checked values
+
+// The sum of a checked value and a number.
+pub fn add_value(limit: u64, c: Checked64, n: u64) -> Checked64
+    ensures { λ r. ⌜ r ≡ sumOf limit c (Fits n) ⌝ }
+{
+    match c {
+        Checked64::Fits(m) => checked_add(limit, m, n),
+        Checked64::Overflowed => Checked64::Overflowed,
+    }
+}
+
+// The sum of two checked values: with an overflowed one it stays overflowed.
+pub fn add_checked(limit: u64, a: Checked64, b: Checked64) -> Checked64
+    ensures { λ r. ⌜ r ≡ sumOf limit a b ⌝ }
+{
+    match b {
+        Checked64::Fits(n) => add_value(limit, a, n),
+        Checked64::Overflowed => Checked64::Overflowed,
+    }
+}
+
+// The product of a checked value and a number.
+pub fn mul_value(limit: u64, c: Checked64, n: u64) -> Checked64
+    ensures { λ r. ⌜ r ≡ productOf limit c (Fits n) ⌝ }
+{
+    match c {
+        Checked64::Fits(m) => checked_mul(limit, m, n),
+        Checked64::Overflowed => overflowed_times(n),
+    }
+}
+
+// The product of two checked values: an overflowed one by 0 is 0, whichever comes first.
+pub fn mul_checked(limit: u64, a: Checked64, b: Checked64) -> Checked64
+    ensures { λ r. ⌜ r ≡ productOf limit a b ⌝ }
+{
+    match b {
+        Checked64::Fits(n) => mul_value(limit, a, n),
+        Checked64::Overflowed => times_overflowed(a),
+    }
+}
+
+// Any number above a limit, times n.
+fn overflowed_times(n: u64) -> Checked64
+    ensures { λ r. ⌜ ((limit : ℕ) → r ≡ productOf limit Overflowed (Fits n)) ⌝ }
+{
+    if n == 0 {
+        return Checked64::Fits(0);
+    }
+    Checked64::Overflowed
+}
+
+// A checked value, times any number above a limit.
+fn times_overflowed(a: Checked64) -> Checked64
+    ensures { λ r. ⌜ ((limit : ℕ) → r ≡ productOf limit a Overflowed) ⌝ }
+{
+    match a {
+        Checked64::Fits(m) => overflowed_times(m),
+        Checked64::Overflowed => Checked64::Overflowed,
+    }
+}
+
+// Both numbers, where both fit.
+pub fn both(a: Checked64, b: Checked64) -> Both
+    ensures { λ r. ⌜ r ≡ bothOf a b ⌝ }
+{
+    match a {
+        Checked64::Fits(m) => beside(m, b),
+        Checked64::Overflowed => Both::Overflowed,
+    }
+}
+
+fn beside(m: u64, b: Checked64) -> Both
+    ensures { λ r. ⌜ r ≡ bothOf (Fits m) b ⌝ }
+{
+    match b {
+        Checked64::Fits(n) => Both::Numbers(m, n),
+        Checked64::Overflowed => Both::Overflowed,
+    }
+}
+
+// The answer where an operand is overflowed, whatever the other is: before a divisor 0 or a small base is looked at.
+fn overflowed_operand() -> Answer64
+    ensures { λ r. ⌜ paper r ≡ refused 3 ⌝ }
+{
+    Answer64::Refused(Refusal::Overflowed)
+}
+
+// The quotient of two checked values.
+pub fn quotient(a: Checked64, b: Checked64) -> Answer64
+    ensures { λ r. ⌜ paper r ≡ quotientOf a b ⌝ }
+{
+    match both(a, b) {
+        Both::Numbers(m, n) => checked_div(m, n),
+        Both::Overflowed => overflowed_operand(),
+    }
+}
+
+// The remainder of two checked values.
+pub fn remainder(a: Checked64, b: Checked64) -> Answer64
+    ensures { λ r. ⌜ paper r ≡ remainderOf a b ⌝ }
+{
+    match both(a, b) {
+        Both::Numbers(m, n) => checked_rem(m, n),
+        Both::Overflowed => overflowed_operand(),
+    }
+}
+
+// a to the power of b. A power above the limit is overflowed and not refused.
+pub fn power(limit: u64, a: Checked64, b: Checked64) -> Answer64
+    ensures { λ r. ⌜ paper r ≡ powerOf limit a b ⌝ }
+{
+    match both(a, b) {
+        Both::Numbers(m, n) => Answer64::Value(checked_pow(limit, m, n)),
+        Both::Overflowed => overflowed_operand(),
+    }
+}
+
+// The logarithm of b in the base a.
+pub fn logarithm(a: Checked64, b: Checked64) -> Answer64
+    ensures { λ r. ⌜ paper r ≡ logarithmOf a b ⌝ }
+{
+    match both(a, b) {
+        Both::Numbers(m, n) => checked_log(m, n),
+        Both::Overflowed => overflowed_operand(),
+    }
+}

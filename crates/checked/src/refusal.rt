@@ -1,0 +1,43 @@
+// Why a call is refused. `numberOf` of specs/Paper.antt gives each case its number, from 1 to 20 in this order.
+pub enum Refusal {
+    // divisor 0, both fit
+    DivisorZero,
+    // base below 2, both fit
+    BaseBelowTwo,
+    // overflowed operand, place or value
+    Overflowed,
+    // signed quotient doesn't fit
+    QuotientTooLarge,
+    // width not 8, 16, 32, 64
+    UnknownWidth,
+    // lent lists of one recipe or field differ in length
+    LengthsDiffer,
+    // recipe of 0 items or above 256
+    ItemCount,
+    // unknown kind, or operation with a number not 0
+    UnknownKind,
+    // literal above M
+    LiteralTooLarge,
+    // operation with fewer than two values on hand
+    TooFewOnHand,
+    // literal that would be the 33rd on hand
+    HandFull,
+    // recipe ends with more than one value
+    SeveralLeft,
+    // recipe ends with none
+    NoneLeft,
+    // field empty
+    FieldEmpty,
+    // mark not 0 or 1, or overflowed with number not 0
+    BadMark,
+    // block not 512 bytes, or run not a multiple of 512
+    BlockLength,
+    // check wrong
+    WrongCheck,
+    // edition, count, a byte that must be zero, a mark, or an overflowed value with a number
+    BadLayout,
+    // lent result list shorter than what would be written
+    ListTooShort,
+    // allowance spent
+    AllowanceSpent,
+}

@@ -1,0 +1,3 @@
+-- The laws on the widths, once for all of them.
+pub mod Widths
+pub mod Unique

@@ -1,0 +1,26 @@
+-- `types::Checked32::mul_checked` meets its contract.
+-- Assumes nothing.
+use borrow.Author.Needs.{needs}
+use Rattle.checked.specs.Value.{limitOf}
+use Rattle.narrow.proofs.Widths.{product-at}
+use Rattle.narrow.proofs.types.Checked32.mul_checked.Statement.{statement}
+use Rattle.narrow.proofs.types.Checked32.mul_checked.Tie as tie
+
+wide-requires : tie.Need-wide-requires
+wide-requires c κs = search needs
+
+wide-requires-2 : tie.Need-wide-requires-2
+wide-requires-2 c κs = search needs
+
+mul-checked-requires : tie.Need-mul-checked-requires
+mul-checked-requires c κs = search needs
+
+narrow-requires : tie.Need-narrow-requires
+narrow-requires c κs = search needs
+
+returns : tie.Need-returns
+returns c = product-at (limitOf 32) (c .narrow .ensures) (c .before .mul-checked .ensures) (c .before .before .before .wide .ensures .same) (c .before .before .wide2 .ensures .same)
+
+pub mul-checked-spec : {M : Type 1} → statement M
+mul-checked-spec =
+    tie.close (tie.spec wide-requires wide-requires-2 mul-checked-requires narrow-requires returns)

@@ -1,0 +1,24 @@
+-- `types::Checked8::unwrap` meets its contract.
+-- Assumes nothing.
+use mathlib.Core.Path.{refl}
+use borrow.Author.Needs.{needs}
+use Rattle.checked.specs.Paper.{plainOf}
+use Rattle.checked.proofs.Limit.{at}
+use Rattle.narrow.specs.Widths.{value8}
+use Rattle.narrow.proofs.types.Checked8.unwrap.Statement.{statement}
+use Rattle.narrow.proofs.types.Checked8.unwrap.Tie as tie
+
+enum-known-self : tie.Need-enum-known-self
+enum-known-self c = search needs
+
+enum-told : tie.Need-enum-told
+enum-told c = search needs
+
+returns : tie.Need-returns
+returns c = at (λ v. plainOf (value8 v)) refl (c .before .self .given .1)
+
+returns-2 : tie.Need-returns-2
+returns-2 c = at (λ v. plainOf (value8 v)) refl (c .enum-told .given .1)
+
+pub unwrap-spec : {M : Type 1} → statement M
+unwrap-spec = tie.close (tie.spec enum-known-self enum-told returns returns-2)
