@@ -10,6 +10,9 @@ ghost use Rattle.checked.specs.declared.types.Checked64.the-variants.{Fi
 ghost use Rattle.checked.specs.Value.{limitOf, isOverflowed, option, sumOf, productOf};
 ghost use Rattle.checked.specs.Paper.{paper, plain, plainOf, quotientOf, remainderOf, powerOf, logarithmOf};
 
+// The largest number of 64 bits.
+const LIMIT: u64 = 18446744073709551615;
+
 impl Checked64 {
     pub fn new(v: u64) -> Self
         ensures { λ r. ⌜ r ≡ Fits v ⌝ }
@@ -54,25 +57,25 @@ impl Checked64 {
     pub fn add_value(self, v: u64) -> Checked64
         ensures { λ r. ⌜ r ≡ sumOf (limitOf 64) self (Fits v) ⌝ }
     {
-        limited::add_value(18446744073709551615, self, v)
+        limited::add_value(LIMIT, self, v)
     }
 
     pub fn add_checked(self, v: Checked64) -> Checked64
         ensures { λ r. ⌜ r ≡ sumOf (limitOf 64) self v ⌝ }
     {
-        limited::add_checked(18446744073709551615, self, v)
+        limited::add_checked(LIMIT, self, v)
     }
 
     pub fn mul_value(self, v: u64) -> Checked64
         ensures { λ r. ⌜ r ≡ productOf (limitOf 64) self (Fits v) ⌝ }
     {
-        limited::mul_value(18446744073709551615, self, v)
+        limited::mul_value(LIMIT, self, v)
     }
 
     pub fn mul_checked(self, v: Checked64) -> Checked64
         ensures { λ r. ⌜ r ≡ productOf (limitOf 64) self v ⌝ }
     {
-        limited::mul_checked(18446744073709551615, self, v)
+        limited::mul_checked(LIMIT, self, v)
     }
 
     pub fn quotient(self, v: Checked64) -> Answer64
@@ -91,7 +94,7 @@ impl Checked64 {
     pub fn power(self, v: Checked64) -> Answer64
         ensures { λ r. ⌜ paper r ≡ powerOf (limitOf 64) self v ⌝ }
     {
-        limited::power(18446744073709551615, self, v)
+        limited::power(LIMIT, self, v)
     }
 
     // The logarithm of v in the base self.

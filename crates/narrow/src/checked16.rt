@@ -13,6 +13,9 @@ ghost use Rattle.checked.specs.Value.{limitOf, isOverflowed, sumOf, productOf};
 ghost use Rattle.checked.specs.Paper.{plainOf, quotientOf, remainderOf, powerOf, logarithmOf};
 ghost use Rattle.narrow.specs.Widths.{value16, paper16, plain16, option16, Wide, clampOf, clampedOf};
 
+// The largest number of 16 bits.
+const LIMIT: u64 = 65535;
+
 impl Checked16 {
     pub fn new(v: u16) -> Self
         ensures { λ r. ⌜ value16 r ≡ Fits v ⌝ }
@@ -57,25 +60,25 @@ impl Checked16 {
     pub fn add_value(self, v: u16) -> Checked16
         ensures { λ r. ⌜ value16 r ≡ sumOf (limitOf 16) (value16 self) (Fits v) ⌝ }
     {
-        narrow(limited::add_value(65535, self.wide(), v as u64))
+        narrow(limited::add_value(LIMIT, self.wide(), v as u64))
     }
 
     pub fn add_checked(self, v: Checked16) -> Checked16
         ensures { λ r. ⌜ value16 r ≡ sumOf (limitOf 16) (value16 self) (value16 v) ⌝ }
     {
-        narrow(limited::add_checked(65535, self.wide(), v.wide()))
+        narrow(limited::add_checked(LIMIT, self.wide(), v.wide()))
     }
 
     pub fn mul_value(self, v: u16) -> Checked16
         ensures { λ r. ⌜ value16 r ≡ productOf (limitOf 16) (value16 self) (Fits v) ⌝ }
     {
-        narrow(limited::mul_value(65535, self.wide(), v as u64))
+        narrow(limited::mul_value(LIMIT, self.wide(), v as u64))
     }
 
     pub fn mul_checked(self, v: Checked16) -> Checked16
         ensures { λ r. ⌜ value16 r ≡ productOf (limitOf 16) (value16 self) (value16 v) ⌝ }
     {
-        narrow(limited::mul_checked(65535, self.wide(), v.wide()))
+        narrow(limited::mul_checked(LIMIT, self.wide(), v.wide()))
     }
 
     pub fn quotient(self, v: Checked16) -> Answer16
@@ -94,7 +97,7 @@ impl Checked16 {
     pub fn power(self, v: Checked16) -> Answer16
         ensures { λ r. ⌜ paper16 r ≡ powerOf (limitOf 16) (value16 self) (value16 v) ⌝ }
     {
-        narrow_answer(limited::power(65535, self.wide(), v.wide()))
+        narrow_answer(limited::power(LIMIT, self.wide(), v.wide()))
     }
 
     // The logarithm of v in the base self.
@@ -121,7 +124,7 @@ fn narrow(c: Checked64) -> Checked16
 {
     match c {
         Checked64::Fits(n) => {
-            if n <= 65535 {
+            if n <= LIMIT {
                 Checked16::Fits(n as u16)
             } else {
                 Checked16::Overflowed

@@ -13,6 +13,9 @@ ghost use Rattle.checked.specs.Value.{limitOf, isOverflowed, sumOf, productOf};
 ghost use Rattle.checked.specs.Paper.{plainOf, quotientOf, remainderOf, powerOf, logarithmOf};
 ghost use Rattle.narrow.specs.Widths.{value32, paper32, plain32, option32, Wide, clampOf, clampedOf};
 
+// The largest number of 32 bits.
+const LIMIT: u64 = 4294967295;
+
 impl Checked32 {
     pub fn new(v: u32) -> Self
         ensures { λ r. ⌜ value32 r ≡ Fits v ⌝ }
@@ -57,25 +60,25 @@ impl Checked32 {
     pub fn add_value(self, v: u32) -> Checked32
         ensures { λ r. ⌜ value32 r ≡ sumOf (limitOf 32) (value32 self) (Fits v) ⌝ }
     {
-        narrow(limited::add_value(4294967295, self.wide(), v as u64))
+        narrow(limited::add_value(LIMIT, self.wide(), v as u64))
     }
 
     pub fn add_checked(self, v: Checked32) -> Checked32
         ensures { λ r. ⌜ value32 r ≡ sumOf (limitOf 32) (value32 self) (value32 v) ⌝ }
     {
-        narrow(limited::add_checked(4294967295, self.wide(), v.wide()))
+        narrow(limited::add_checked(LIMIT, self.wide(), v.wide()))
     }
 
     pub fn mul_value(self, v: u32) -> Checked32
         ensures { λ r. ⌜ value32 r ≡ productOf (limitOf 32) (value32 self) (Fits v) ⌝ }
     {
-        narrow(limited::mul_value(4294967295, self.wide(), v as u64))
+        narrow(limited::mul_value(LIMIT, self.wide(), v as u64))
     }
 
     pub fn mul_checked(self, v: Checked32) -> Checked32
         ensures { λ r. ⌜ value32 r ≡ productOf (limitOf 32) (value32 self) (value32 v) ⌝ }
     {
-        narrow(limited::mul_checked(4294967295, self.wide(), v.wide()))
+        narrow(limited::mul_checked(LIMIT, self.wide(), v.wide()))
     }
 
     pub fn quotient(self, v: Checked32) -> Answer32
@@ -94,7 +97,7 @@ impl Checked32 {
     pub fn power(self, v: Checked32) -> Answer32
         ensures { λ r. ⌜ paper32 r ≡ powerOf (limitOf 32) (value32 self) (value32 v) ⌝ }
     {
-        narrow_answer(limited::power(4294967295, self.wide(), v.wide()))
+        narrow_answer(limited::power(LIMIT, self.wide(), v.wide()))
     }
 
     // The logarithm of v in the base self.
@@ -121,7 +124,7 @@ fn narrow(c: Checked64) -> Checked32
 {
     match c {
         Checked64::Fits(n) => {
-            if n <= 4294967295 {
+            if n <= LIMIT {
                 Checked32::Fits(n as u32)
             } else {
                 Checked32::Overflowed

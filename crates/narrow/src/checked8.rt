@@ -13,6 +13,9 @@ ghost use Rattle.checked.specs.Value.{limitOf, isOverflowed, sumOf, productOf};
 ghost use Rattle.checked.specs.Paper.{plainOf, quotientOf, remainderOf, powerOf, logarithmOf};
 ghost use Rattle.narrow.specs.Widths.{value8, paper8, plain8, option8, Wide, clampOf, clampedOf};
 
+// The largest number of 8 bits.
+const LIMIT: u64 = 255;
+
 impl Checked8 {
     pub fn new(v: u8) -> Self
         ensures { λ r. ⌜ value8 r ≡ Fits v ⌝ }
@@ -57,25 +60,25 @@ impl Checked8 {
     pub fn add_value(self, v: u8) -> Checked8
         ensures { λ r. ⌜ value8 r ≡ sumOf (limitOf 8) (value8 self) (Fits v) ⌝ }
     {
-        narrow(limited::add_value(255, self.wide(), v as u64))
+        narrow(limited::add_value(LIMIT, self.wide(), v as u64))
     }
 
     pub fn add_checked(self, v: Checked8) -> Checked8
         ensures { λ r. ⌜ value8 r ≡ sumOf (limitOf 8) (value8 self) (value8 v) ⌝ }
     {
-        narrow(limited::add_checked(255, self.wide(), v.wide()))
+        narrow(limited::add_checked(LIMIT, self.wide(), v.wide()))
     }
 
     pub fn mul_value(self, v: u8) -> Checked8
         ensures { λ r. ⌜ value8 r ≡ productOf (limitOf 8) (value8 self) (Fits v) ⌝ }
     {
-        narrow(limited::mul_value(255, self.wide(), v as u64))
+        narrow(limited::mul_value(LIMIT, self.wide(), v as u64))
     }
 
     pub fn mul_checked(self, v: Checked8) -> Checked8
         ensures { λ r. ⌜ value8 r ≡ productOf (limitOf 8) (value8 self) (value8 v) ⌝ }
     {
-        narrow(limited::mul_checked(255, self.wide(), v.wide()))
+        narrow(limited::mul_checked(LIMIT, self.wide(), v.wide()))
     }
 
     pub fn quotient(self, v: Checked8) -> Answer8
@@ -94,7 +97,7 @@ impl Checked8 {
     pub fn power(self, v: Checked8) -> Answer8
         ensures { λ r. ⌜ paper8 r ≡ powerOf (limitOf 8) (value8 self) (value8 v) ⌝ }
     {
-        narrow_answer(limited::power(255, self.wide(), v.wide()))
+        narrow_answer(limited::power(LIMIT, self.wide(), v.wide()))
     }
 
     // The logarithm of v in the base self.
@@ -121,7 +124,7 @@ fn narrow(c: Checked64) -> Checked8
 {
     match c {
         Checked64::Fits(n) => {
-            if n <= 255 {
+            if n <= LIMIT {
                 Checked8::Fits(n as u8)
             } else {
                 Checked8::Overflowed

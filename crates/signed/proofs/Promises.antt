@@ -12,7 +12,7 @@ use lib.Signed.{_≤ℤ_, _<ℤ_}
 use mir.Syntax.{Width}
 use mir.Val.{bits, SFits}
 use Rattle.whole.specs.div-mod.{rust-div}
-use Rattle.whole.proofs.Difference.{⟨_⟩, #, ⊖_, leℤ, ltℤ, fromLe, fromLt}
+use Rattle.whole.proofs.Difference.{⟨_⟩, #, ⊖_, leℤ, ltℤ, leℤ⁻¹, ltℤ⁻¹}
 use Rattle.whole.proofs.Order.{equal-or-not}
 use Rattle.signed.specs.Signed.{inRange}
 use Rattle.signed.proofs.Division.{smallest, quotient-out-of-range, quotient-in-range}
@@ -22,12 +22,12 @@ pub range : (W : ℕ) (z : ℤ) → (inRange W z ≡ true) ↔ ((negℤ (pos (2 
 range W (pos n) =
     let H = 2 ^ (W - 1) in (
       λ e. let h = ltb-true n H e in (leℤ (⊖ # H) (# n) (omega arith), ltℤ (# n) (# H) (omega arith)),
-      λ r. lt-ltb n H (omega (arith, fromLt (# n) (# H) (r .1))),
+      λ r. lt-ltb n H (omega (arith, ltℤ⁻¹ (# n) (# H) (r .1))),
     )
 range W (negsuc n) =
     let H = 2 ^ (W - 1) in (
       λ e. let h = ltb-true n H e in (leℤ (⊖ # H) ⟨ negsuc n ⟩ (omega arith), ltℤ ⟨ negsuc n ⟩ (# H) (omega arith)),
-      λ r. lt-ltb n H (omega (arith, fromLe (⊖ # H) ⟨ negsuc n ⟩ (r .0))),
+      λ r. lt-ltb n H (omega (arith, leℤ⁻¹ (⊖ # H) ⟨ negsuc n ⟩ (r .0))),
     )
 
 -- of two numbers of a width, only the smallest by -1 has a quotient outside it

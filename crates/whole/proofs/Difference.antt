@@ -151,14 +151,14 @@ less-of x y h = lt-of x y (h .lt)
 pub ruleset whole = (same-of, atmost-of, less-of)
 
 -- the same for a hypothesis whose sides are written over ⊕, ⊝, ⊗ and ⊖
-pub fromEqual : {x y : ℤ} (r : Difference x) (s : Difference y) → x ≡ y → r .more + s .less ≡ s .more + r .less
-fromEqual {x} {y} r s e = omega (arith, r .same, s .same, same-of x y e)
+pub equalℤ⁻¹ : {x y : ℤ} (r : Difference x) (s : Difference y) → x ≡ y → r .more + s .less ≡ s .more + r .less
+equalℤ⁻¹ {x} {y} r s e = omega (arith, r .same, s .same, same-of x y e)
 
-pub fromLe : {x y : ℤ} (r : Difference x) (s : Difference y) → x ≤ℤ y → r .more + s .less ≤ s .more + r .less
-fromLe {x} {y} r s h = omega (arith, r .same, s .same, atmost-of x y h)
+pub leℤ⁻¹ : {x y : ℤ} (r : Difference x) (s : Difference y) → x ≤ℤ y → r .more + s .less ≤ s .more + r .less
+leℤ⁻¹ {x} {y} r s h = omega (arith, r .same, s .same, atmost-of x y h)
 
-pub fromLt : {x y : ℤ} (r : Difference x) (s : Difference y) → x <ℤ y → r .more + s .less < s .more + r .less
-fromLt {x} {y} r s h = omega (arith, r .same, s .same, less-of x y h)
+pub ltℤ⁻¹ : {x y : ℤ} (r : Difference x) (s : Difference y) → x <ℤ y → r .more + s .less < s .more + r .less
+ltℤ⁻¹ {x} {y} r s h = omega (arith, r .same, s .same, less-of x y h)
 
 -- ---- a product of two differences that aren't negative, as a hint for `omega`: (b - a) * (d - c) is at least 0, or above it
 

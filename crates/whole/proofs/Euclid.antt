@@ -9,7 +9,7 @@ use native.Mathlib.Omega.{arith}
 use lib.IntN.{ℤ, pos, negsuc, negℤ, _+ℤ_, _*ℤ_}
 use lib.Signed.{_≤ℤ_, _<ℤ_, clashℤ}
 use Rattle.whole.specs.div-mod.{_/ℤ_, _%ℤ_, _below_, ∣_∣}
-use Rattle.whole.proofs.Difference.{Difference, plus, minus, plus-neg, minus-neg, ⟨_⟩, #, _⊕_, _⊝_, _⊗_, ⊖_, equalℤ, leℤ, ltℤ, fromEqual, fromLe, fromLt, same-of, atmost-of, less-of, whole, cross}
+use Rattle.whole.proofs.Difference.{Difference, plus, minus, plus-neg, minus-neg, ⟨_⟩, #, _⊕_, _⊝_, _⊗_, ⊖_, equalℤ, leℤ, ltℤ, equalℤ⁻¹, leℤ⁻¹, ltℤ⁻¹, same-of, atmost-of, less-of, whole, cross}
 use Rattle.whole.proofs.Order.{≤ℤ-antisym, ≤ℤ-<ℤ-trans, <ℤ→≤ℤ, ≮ℤ→≤ℤ, ≰ℤ→<ℤ, equal-or-not}
 
 -- ---- the specification: x is d times the quotient and the remainder, and that is from 0 to |d| - 1
@@ -53,20 +53,20 @@ bound-positive x (negsuc m) h = absurd (h .lt)
 not-larger : {d q r p s : ℤ} → r below d → s below d → d *ℤ q +ℤ r ≡ d *ℤ p +ℤ s → q ≤ℤ p
 not-larger {d} {q} {r} {p} {s} h k e =
     ≮ℤ→≤ℤ λ (l : p <ℤ q).
-    omega (arith, whole, fromEqual (⟨ d ⟩ ⊗ ⟨ q ⟩ ⊕ ⟨ r ⟩) (⟨ d ⟩ ⊗ ⟨ p ⟩ ⊕ ⟨ s ⟩) e, cross (less-of p q l) (atmost-of (pos 0) d (<ℤ→≤ℤ (≤ℤ-<ℤ-trans (h .0) (h .1)))))
+    omega (arith, whole, equalℤ⁻¹ (⟨ d ⟩ ⊗ ⟨ q ⟩ ⊕ ⟨ r ⟩) (⟨ d ⟩ ⊗ ⟨ p ⟩ ⊕ ⟨ s ⟩) e, cross (less-of p q l) (atmost-of (pos 0) d (<ℤ→≤ℤ (≤ℤ-<ℤ-trans (h .0) (h .1)))))
 
 unique-positive : {d q r p s : ℤ} → r below d → s below d → d *ℤ q +ℤ r ≡ d *ℤ p +ℤ s → (q ≡ p) × (r ≡ s)
 unique-positive {d} {q} {r} {p} {s} h k e =
     let f : q ≡ p = ≤ℤ-antisym (not-larger h k e) (not-larger k h (sym e)) in
-    (f, equalℤ ⟨ r ⟩ ⟨ s ⟩ (omega (arith, fromEqual (⟨ d ⟩ ⊗ ⟨ q ⟩ ⊕ ⟨ r ⟩) (⟨ d ⟩ ⊗ ⟨ q ⟩ ⊕ ⟨ s ⟩) (subst (λ z. d *ℤ q +ℤ r ≡ d *ℤ z +ℤ s) (sym f) e))))
+    (f, equalℤ ⟨ r ⟩ ⟨ s ⟩ (omega (arith, equalℤ⁻¹ (⟨ d ⟩ ⊗ ⟨ q ⟩ ⊕ ⟨ r ⟩) (⟨ d ⟩ ⊗ ⟨ q ⟩ ⊕ ⟨ s ⟩) (subst (λ z. d *ℤ q +ℤ r ≡ d *ℤ z +ℤ s) (sym f) e))))
 
 pub unique : (d : ℤ) {q r p s : ℤ} → r below ∣ d ∣ → s below ∣ d ∣ → d *ℤ q +ℤ r ≡ d *ℤ p +ℤ s → (q ≡ p) × (r ≡ s)
 unique (pos n) h k e = unique-positive h k e
 unique (negsuc m) {q} {r} {p} {s} h k e =
     let f = unique-positive {q = negℤ q} {p = negℤ p} h k
     (equalℤ (# (suc m) ⊗ ⊖ ⟨ q ⟩ ⊕ ⟨ r ⟩) (# (suc m) ⊗ ⊖ ⟨ p ⟩ ⊕ ⟨ s ⟩)
-    (omega (arith, fromEqual (⟨ negsuc m ⟩ ⊗ ⟨ q ⟩ ⊕ ⟨ r ⟩) (⟨ negsuc m ⟩ ⊗ ⟨ p ⟩ ⊕ ⟨ s ⟩) e))) in
-    (equalℤ ⟨ q ⟩ ⟨ p ⟩ (omega (arith, fromEqual (⊖ ⟨ q ⟩) (⊖ ⟨ p ⟩) (f .0))), f .1)
+    (omega (arith, equalℤ⁻¹ (⟨ negsuc m ⟩ ⊗ ⟨ q ⟩ ⊕ ⟨ r ⟩) (⟨ negsuc m ⟩ ⊗ ⟨ p ⟩ ⊕ ⟨ s ⟩) e))) in
+    (equalℤ ⟨ q ⟩ ⟨ p ⟩ (omega (arith, equalℤ⁻¹ (⊖ ⟨ q ⟩) (⊖ ⟨ p ⟩) (f .0))), f .1)
 
 below→≢0 : (d : ℤ) {r : ℤ} → r below ∣ d ∣ → d ≢ pos 0
 below→≢0 d {r} h e = omega (arith, whole, same-of ∣ d ∣ (pos 0) (ap ∣_∣ e))
@@ -80,12 +80,12 @@ determined x d q r h e = unique d h (bound x d (below→≢0 d h)) (sym e ∙ fu
 pub shifted : (x y a d : ℤ) → d ≢ pos 0 → x ≡ d *ℤ a +ℤ y → (x /ℤ d ≡ a +ℤ y /ℤ d) × (x %ℤ d ≡ y %ℤ d)
 shifted x y a d n e =
     let f = determined x d (a +ℤ y /ℤ d) (y %ℤ d) (bound y d n)
-    (equalℤ ⟨ x ⟩ (⟨ d ⟩ ⊗ (⟨ a ⟩ ⊕ ⟨ y /ℤ d ⟩) ⊕ ⟨ y ⟩ %% ⟨ d ⟩) (omega (arith, fromEqual ⟨ x ⟩ (⟨ d ⟩ ⊗ ⟨ a ⟩ ⊕ ⟨ y ⟩) e))) in
+    (equalℤ ⟨ x ⟩ (⟨ d ⟩ ⊗ (⟨ a ⟩ ⊕ ⟨ y /ℤ d ⟩) ⊕ ⟨ y ⟩ %% ⟨ d ⟩) (omega (arith, equalℤ⁻¹ ⟨ x ⟩ (⟨ d ⟩ ⊗ ⟨ a ⟩ ⊕ ⟨ y ⟩) e))) in
     (sym (f .0), sym (f .1))
 
 same-at-zero : (x y a d : ℤ) → d ≡ pos 0 → x ≡ d *ℤ a +ℤ y → x ≡ y
 same-at-zero x y a d z e =
-    equalℤ ⟨ x ⟩ ⟨ y ⟩ (omega (arith, fromEqual ⟨ x ⟩ (# 0 ⊗ ⟨ a ⟩ ⊕ ⟨ y ⟩) (subst (λ b. x ≡ b *ℤ a +ℤ y) z e)))
+    equalℤ ⟨ x ⟩ ⟨ y ⟩ (omega (arith, equalℤ⁻¹ ⟨ x ⟩ (# 0 ⊗ ⟨ a ⟩ ⊕ ⟨ y ⟩) (subst (λ b. x ≡ b *ℤ a +ℤ y) z e)))
 
 -- the remainder does not change, for any divisor
 pub same-remainder : (x y a d : ℤ) → x ≡ d *ℤ a +ℤ y → x %ℤ d ≡ y %ℤ d
@@ -94,17 +94,17 @@ same-remainder x y a d e = ⊎-elim (λ z. ap (λ b. b %ℤ d) (same-at-zero x y
 -- ---- for a divisor above 0 the quotient is the largest c with d * c at most x
 
 pub times-quotient : (x d : ℤ) → pos 0 <ℤ d → (d *ℤ (x /ℤ d)) ≤ℤ x
-times-quotient x d h = leℤ (⟨ d ⟩ ⊗ ⟨ x /ℤ d ⟩) ⟨ x ⟩ (omega (arith, fromLe (# 0) (⟨ x ⟩ %% ⟨ d ⟩) (bound-positive x d h .0)))
+times-quotient x d h = leℤ (⟨ d ⟩ ⊗ ⟨ x /ℤ d ⟩) ⟨ x ⟩ (omega (arith, leℤ⁻¹ (# 0) (⟨ x ⟩ %% ⟨ d ⟩) (bound-positive x d h .0)))
 
 pub times-at-most : (x d c : ℤ) → pos 0 <ℤ d → (d *ℤ c) ≤ℤ x → c ≤ℤ (x /ℤ d)
 times-at-most x d c h k =
     ≮ℤ→≤ℤ λ (l : (x /ℤ d) <ℤ c).
-    omega (arith, fromLe (⟨ d ⟩ ⊗ ⟨ c ⟩) ⟨ x ⟩ k, cross (less-of (x /ℤ d) c l) (atmost-of (pos 0) d (<ℤ→≤ℤ h)), fromLt (⟨ x ⟩ %% ⟨ d ⟩) ⟨ d ⟩ (bound-positive x d h .1))
+    omega (arith, leℤ⁻¹ (⟨ d ⟩ ⊗ ⟨ c ⟩) ⟨ x ⟩ k, cross (less-of (x /ℤ d) c l) (atmost-of (pos 0) d (<ℤ→≤ℤ h)), ltℤ⁻¹ (⟨ x ⟩ %% ⟨ d ⟩) ⟨ d ⟩ (bound-positive x d h .1))
 
 pub less-than-times : (x d c : ℤ) → pos 0 <ℤ d → x <ℤ (d *ℤ c) → (x /ℤ d) <ℤ c
 less-than-times x d c h k =
     ≰ℤ→<ℤ λ (l : c ≤ℤ (x /ℤ d)).
-    omega (arith, fromLt ⟨ x ⟩ (⟨ d ⟩ ⊗ ⟨ c ⟩) k, cross (atmost-of c (x /ℤ d) l) (atmost-of (pos 0) d (<ℤ→≤ℤ h)), fromLe (# 0) (⟨ x ⟩ %% ⟨ d ⟩) (bound-positive x d h .0))
+    omega (arith, ltℤ⁻¹ ⟨ x ⟩ (⟨ d ⟩ ⊗ ⟨ c ⟩) k, cross (atmost-of c (x /ℤ d) l) (atmost-of (pos 0) d (<ℤ→≤ℤ h)), leℤ⁻¹ (# 0) (⟨ x ⟩ %% ⟨ d ⟩) (bound-positive x d h .0))
 
 -- and back
 pub quotient-less : (x d c : ℤ) → pos 0 <ℤ d → (x /ℤ d) <ℤ c → x <ℤ (d *ℤ c)

@@ -9,7 +9,7 @@ use native.Mathlib.Omega.{arith}
 use lib.IntN.{ℤ, pos, negsuc, negℤ, natAbs, _+ℤ_, _*ℤ_}
 use lib.Signed.{_≤ℤ_, _<ℤ_, ≤ℤ-refl, quotZ, remZ}
 use Rattle.whole.specs.div-mod.{_/ℤ_, _%ℤ_, ∣_∣, rust-div, rust-rem}
-use Rattle.whole.proofs.Difference.{⟨_⟩, #, _⊕_, _⊗_, ⊖_, equalℤ, leℤ, ltℤ, fromEqual, whole}
+use Rattle.whole.proofs.Difference.{⟨_⟩, #, _⊕_, _⊗_, ⊖_, equalℤ, leℤ, ltℤ, equalℤ⁻¹, whole}
 use Rattle.whole.proofs.Euclid.{fundamental}
 use Rattle.whole.proofs.Naturals.{natural-mod}
 
@@ -39,7 +39,7 @@ rust-fundamental (pos (suc a)) b = fundamental (pos (suc a)) b
 rust-fundamental (negsuc a) b =
     let q = pos (suc a) /ℤ b in
     let r = pos (suc a) %ℤ b in
-    equalℤ ⟨ negsuc a ⟩ (⟨ b ⟩ ⊗ ⊖ ⟨ q ⟩ ⊕ ⊖ ⟨ r ⟩) (omega (arith, fromEqual (# (suc a)) (⟨ b ⟩ ⊗ ⟨ q ⟩ ⊕ ⟨ r ⟩) (fundamental (pos (suc a)) b)))
+    equalℤ ⟨ negsuc a ⟩ (⟨ b ⟩ ⊗ ⊖ ⟨ q ⟩ ⊕ ⊖ ⟨ r ⟩) (omega (arith, equalℤ⁻¹ (# (suc a)) (⟨ b ⟩ ⊗ ⟨ q ⟩ ⊕ ⟨ r ⟩) (fundamental (pos (suc a)) b)))
 
 -- ---- the remainder is smaller than the divisor, and has a's sign
 

@@ -7,7 +7,7 @@ use native.Mathlib.Omega.{arith}
 use lib.IntN.{ℤ, pos, negsuc, negℤ, _+ℤ_, _-ℤ_, _*ℤ_, +ℤ-idr, +ℤ-comm, +ℤ-invr}
 use lib.Signed.{_≤ℤ_, _<ℤ_, ≤ℤ-refl, <ℤ-≤ℤ-trans, clashℤ}
 use Rattle.whole.specs.div-mod.{_/ℤ_, _%ℤ_, _below_, ∣_∣}
-use Rattle.whole.proofs.Difference.{⟨_⟩, #, _⊕_, _⊝_, _⊗_, ⊖_, equalℤ, leℤ, ltℤ, fromEqual, fromLe, fromLt, atmost-of, less-of, whole, cross, cross-strict}
+use Rattle.whole.proofs.Difference.{⟨_⟩, #, _⊕_, _⊝_, _⊗_, ⊖_, equalℤ, leℤ, ltℤ, equalℤ⁻¹, leℤ⁻¹, ltℤ⁻¹, atmost-of, less-of, whole, cross, cross-strict}
 use Rattle.whole.proofs.Order.{≤ℤ-trans, ≤ℤ-<ℤ-trans, <ℤ→≤ℤ, ≡→≤ℤ, ≮ℤ→≤ℤ, positive→≢0}
 use Rattle.whole.proofs.mul.{lemma-mul-basics-2, lemma-mul-basics-3, lemma-mul-basics-4, lemma-mul-is-commutative, lemma-mul-inequality, lemma-mul-left-inequality, lemma-mul-nonnegative, lemma-mul-strictly-positive, lemma-mul-strictly-increases, lemma-mul-increases}
 use Rattle.whole.proofs.Euclid.{_%%_, fundamental, bound, bound-positive, determined, shifted, same-remainder, times-quotient, times-at-most, less-than-times}
@@ -26,7 +26,7 @@ below-size (negsuc n) r h = absurd (≤ℤ-<ℤ-trans (h .0) (h .1) .lt)
 -- 0 <= r < d and x == q * d + r give r == x % d and q == x / d
 pub lemma-fundamental-div-mod-converse : (x d q r : ℤ) → r below d → x ≡ q *ℤ d +ℤ r → (r ≡ x %ℤ d) × (q ≡ x /ℤ d)
 lemma-fundamental-div-mod-converse x d q r h e =
-    let f = determined x d q r (below-size d r h) (equalℤ ⟨ x ⟩ (⟨ d ⟩ ⊗ ⟨ q ⟩ ⊕ ⟨ r ⟩) (omega (arith, fromEqual ⟨ x ⟩ (⟨ q ⟩ ⊗ ⟨ d ⟩ ⊕ ⟨ r ⟩) e))) in
+    let f = determined x d q r (below-size d r h) (equalℤ ⟨ x ⟩ (⟨ d ⟩ ⊗ ⟨ q ⟩ ⊕ ⟨ r ⟩) (omega (arith, equalℤ⁻¹ ⟨ x ⟩ (⟨ q ⟩ ⊗ ⟨ d ⟩ ⊕ ⟨ r ⟩) e))) in
     (f .1, f .0)
 
 pub lemma-fundamental-div-mod-converse-mod : (x d q r : ℤ) → r below d → x ≡ q *ℤ d +ℤ r → r ≡ x %ℤ d
@@ -47,7 +47,7 @@ lemma-fundamental-div-mod-converse-helper-2 u d r h = lemma-fundamental-div-mod-
 exact : (x d q : ℤ) → d ≢ pos 0 → x ≡ d *ℤ q → (q ≡ x /ℤ d) × (pos 0 ≡ x %ℤ d)
 exact x d q n e =
     determined x d q (pos 0) (≤ℤ-refl (pos 0), ≤ℤ-<ℤ-trans (bound d d n .0) (bound d d n .1))
-    (equalℤ ⟨ x ⟩ (⟨ d ⟩ ⊗ ⟨ q ⟩ ⊕ # 0) (omega (arith, fromEqual ⟨ x ⟩ (⟨ d ⟩ ⊗ ⟨ q ⟩) e)))
+    (equalℤ ⟨ x ⟩ (⟨ d ⟩ ⊗ ⟨ q ⟩ ⊕ # 0) (omega (arith, equalℤ⁻¹ ⟨ x ⟩ (⟨ d ⟩ ⊗ ⟨ q ⟩) e)))
 
 multiple : (x d : ℤ) → x %ℤ d ≡ pos 0 → x ≡ d *ℤ (x /ℤ d)
 multiple x d e = fundamental x d ∙ ap (λ r. d *ℤ (x /ℤ d) +ℤ r) e ∙ +ℤ-idr (d *ℤ (x /ℤ d))
@@ -117,7 +117,7 @@ lemma-basic-div-specific-divisor d x h = lemma-basic-div x d h
 pub lemma-multiply-divide-le : (a b c : ℤ) → pos 0 <ℤ b → a ≤ℤ (b *ℤ c) → (a /ℤ b) ≤ℤ c
 lemma-multiply-divide-le a b c h k =
     ≮ℤ→≤ℤ λ (l : c <ℤ (a /ℤ b)).
-    omega (arith, fromLe ⟨ a ⟩ (⟨ b ⟩ ⊗ ⟨ c ⟩) k, cross-strict (less-of c (a /ℤ b) l) (less-of (pos 0) b h), fromLe (# 0) (⟨ a ⟩ %% ⟨ b ⟩) (bound-positive a b h .0))
+    omega (arith, leℤ⁻¹ ⟨ a ⟩ (⟨ b ⟩ ⊗ ⟨ c ⟩) k, cross-strict (less-of c (a /ℤ b) l) (less-of (pos 0) b h), leℤ⁻¹ (# 0) (⟨ a ⟩ %% ⟨ b ⟩) (bound-positive a b h .0))
 
 -- a < b * c gives a / b < c
 pub lemma-multiply-divide-lt : (a b c : ℤ) → pos 0 <ℤ b → a <ℤ (b *ℤ c) → (a /ℤ b) <ℤ c
@@ -125,17 +125,17 @@ lemma-multiply-divide-lt = less-than-times
 
 -- x / d * d <= x
 pub lemma-remainder-lower : (x d : ℤ) → pos 0 <ℤ d → (x /ℤ d *ℤ d) ≤ℤ x
-lemma-remainder-lower x d h = leℤ (⟨ x /ℤ d ⟩ ⊗ ⟨ d ⟩) ⟨ x ⟩ (omega (arith, fromLe (# 0) (⟨ x ⟩ %% ⟨ d ⟩) (bound-positive x d h .0)))
+lemma-remainder-lower x d h = leℤ (⟨ x /ℤ d ⟩ ⊗ ⟨ d ⟩) ⟨ x ⟩ (omega (arith, leℤ⁻¹ (# 0) (⟨ x ⟩ %% ⟨ d ⟩) (bound-positive x d h .0)))
 
 -- x - d < x / d * d
 pub lemma-remainder-upper : (x d : ℤ) → pos 0 <ℤ d → (x -ℤ d) <ℤ (x /ℤ d *ℤ d)
-lemma-remainder-upper x d h = ltℤ (⟨ x ⟩ ⊝ ⟨ d ⟩) (⟨ x /ℤ d ⟩ ⊗ ⟨ d ⟩) (omega (arith, fromLt (⟨ x ⟩ %% ⟨ d ⟩) ⟨ d ⟩ (bound-positive x d h .1)))
+lemma-remainder-upper x d h = ltℤ (⟨ x ⟩ ⊝ ⟨ d ⟩) (⟨ x /ℤ d ⟩ ⊗ ⟨ d ⟩) (omega (arith, ltℤ⁻¹ (⟨ x ⟩ %% ⟨ d ⟩) ⟨ d ⟩ (bound-positive x d h .1)))
 
 -- 0 <= x - x / d * d < d
 pub lemma-remainder : (x d : ℤ) → pos 0 <ℤ d → (x -ℤ x /ℤ d *ℤ d) below d
 lemma-remainder x d h = (
-  leℤ (# 0) (⟨ x ⟩ ⊝ ⟨ x /ℤ d ⟩ ⊗ ⟨ d ⟩) (omega (arith, fromLe (# 0) (⟨ x ⟩ %% ⟨ d ⟩) (bound-positive x d h .0))),
-  ltℤ (⟨ x ⟩ ⊝ ⟨ x /ℤ d ⟩ ⊗ ⟨ d ⟩) ⟨ d ⟩ (omega (arith, fromLt (⟨ x ⟩ %% ⟨ d ⟩) ⟨ d ⟩ (bound-positive x d h .1))),
+  leℤ (# 0) (⟨ x ⟩ ⊝ ⟨ x /ℤ d ⟩ ⊗ ⟨ d ⟩) (omega (arith, leℤ⁻¹ (# 0) (⟨ x ⟩ %% ⟨ d ⟩) (bound-positive x d h .0))),
+  ltℤ (⟨ x ⟩ ⊝ ⟨ x /ℤ d ⟩ ⊗ ⟨ d ⟩) ⟨ d ⟩ (omega (arith, ltℤ⁻¹ (⟨ x ⟩ %% ⟨ d ⟩) ⟨ d ⟩ (bound-positive x d h .1))),
 )
 
 -- x <= y gives x / z <= y / z: upstream's text leaves this function out, its comment states it
@@ -189,15 +189,15 @@ lemma-div-by-multiple-is-strongly-ordered x y m z k e h =
 pub lemma-mul-hoist-inequality : (x y z : ℤ) → pos 0 ≤ℤ x → pos 0 <ℤ z → (x *ℤ (y /ℤ z)) ≤ℤ (x *ℤ y /ℤ z)
 lemma-mul-hoist-inequality x y z k h =
     times-at-most (x *ℤ y) z (x *ℤ (y /ℤ z)) h
-    (leℤ (⟨ z ⟩ ⊗ (⟨ x ⟩ ⊗ ⟨ y /ℤ z ⟩)) (⟨ x ⟩ ⊗ ⟨ y ⟩) (omega (arith, cross (atmost-of (pos 0) x k) (fromLe (⟨ z ⟩ ⊗ ⟨ y /ℤ z ⟩) ⟨ y ⟩ (times-quotient y z h)))))
+    (leℤ (⟨ z ⟩ ⊗ (⟨ x ⟩ ⊗ ⟨ y /ℤ z ⟩)) (⟨ x ⟩ ⊗ ⟨ y ⟩) (omega (arith, cross (atmost-of (pos 0) x k) (leℤ⁻¹ (⟨ z ⟩ ⊗ ⟨ y /ℤ z ⟩) ⟨ y ⟩ (times-quotient y z h)))))
 
 -- b between the same two multiples of d as a has a's quotient
 pub lemma-indistinguishable-quotients : (a b d : ℤ) → pos 0 <ℤ d → (a -ℤ a %ℤ d) ≤ℤ b → b <ℤ (a +ℤ d -ℤ a %ℤ d) → a /ℤ d ≡ b /ℤ d
 lemma-indistinguishable-quotients a b d h k l =
     determined b d (a /ℤ d) (b -ℤ d *ℤ (a /ℤ d))
     (below-size d (b -ℤ d *ℤ (a /ℤ d)) (
-      leℤ (# 0) (⟨ b ⟩ ⊝ ⟨ d ⟩ ⊗ ⟨ a /ℤ d ⟩) (omega (arith, fromLe (⟨ a ⟩ ⊝ ⟨ a ⟩ %% ⟨ d ⟩) ⟨ b ⟩ k)),
-      ltℤ (⟨ b ⟩ ⊝ ⟨ d ⟩ ⊗ ⟨ a /ℤ d ⟩) ⟨ d ⟩ (omega (arith, fromLt ⟨ b ⟩ (⟨ a ⟩ ⊕ ⟨ d ⟩ ⊝ ⟨ a ⟩ %% ⟨ d ⟩) l)),
+      leℤ (# 0) (⟨ b ⟩ ⊝ ⟨ d ⟩ ⊗ ⟨ a /ℤ d ⟩) (omega (arith, leℤ⁻¹ (⟨ a ⟩ ⊝ ⟨ a ⟩ %% ⟨ d ⟩) ⟨ b ⟩ k)),
+      ltℤ (⟨ b ⟩ ⊝ ⟨ d ⟩ ⊗ ⟨ a /ℤ d ⟩) ⟨ d ⟩ (omega (arith, ltℤ⁻¹ ⟨ b ⟩ (⟨ a ⟩ ⊕ ⟨ d ⟩ ⊝ ⟨ a ⟩ %% ⟨ d ⟩) l)),
     ))
     (equalℤ ⟨ b ⟩ (⟨ d ⟩ ⊗ ⟨ a /ℤ d ⟩ ⊕ (⟨ b ⟩ ⊝ ⟨ d ⟩ ⊗ ⟨ a /ℤ d ⟩)) (omega arith)) .0
 
@@ -205,7 +205,7 @@ lemma-indistinguishable-quotients a b d h k l =
 pub lemma-round-down : (a r d : ℤ) → a %ℤ d ≡ pos 0 → r below d → a ≡ d *ℤ ((a +ℤ r) /ℤ d)
 lemma-round-down a r d e h =
     multiple a d e ∙ ap (λ q. d *ℤ q)
-    (determined (a +ℤ r) d (a /ℤ d) r (below-size d r h) (equalℤ (⟨ a ⟩ ⊕ ⟨ r ⟩) (⟨ d ⟩ ⊗ ⟨ a /ℤ d ⟩ ⊕ ⟨ r ⟩) (omega (arith, fromEqual ⟨ a ⟩ (⟨ d ⟩ ⊗ ⟨ a /ℤ d ⟩) (multiple a d e)))) .0)
+    (determined (a +ℤ r) d (a /ℤ d) r (below-size d r h) (equalℤ (⟨ a ⟩ ⊕ ⟨ r ⟩) (⟨ d ⟩ ⊗ ⟨ a /ℤ d ⟩ ⊕ ⟨ r ⟩) (omega (arith, equalℤ⁻¹ ⟨ a ⟩ (⟨ d ⟩ ⊗ ⟨ a /ℤ d ⟩) (multiple a d e)))) .0)
 
 -- ---- sums and products of divisions
 
@@ -213,7 +213,7 @@ lemma-round-down a r d e h =
 pub lemma-dividing-sums : (a b d r : ℤ) → r ≡ a %ℤ d +ℤ b %ℤ d -ℤ (a +ℤ b) %ℤ d → d *ℤ ((a +ℤ b) /ℤ d) -ℤ r ≡ d *ℤ (a /ℤ d) +ℤ d *ℤ (b /ℤ d)
 lemma-dividing-sums a b d r e =
     equalℤ (⟨ d ⟩ ⊗ ⟨ (a +ℤ b) /ℤ d ⟩ ⊝ ⟨ r ⟩) (⟨ d ⟩ ⊗ ⟨ a /ℤ d ⟩ ⊕ ⟨ d ⟩ ⊗ ⟨ b /ℤ d ⟩)
-    (omega (arith, fromEqual ⟨ r ⟩ (⟨ a ⟩ %% ⟨ d ⟩ ⊕ ⟨ b ⟩ %% ⟨ d ⟩ ⊝ (⟨ a ⟩ ⊕ ⟨ b ⟩) %% ⟨ d ⟩) e))
+    (omega (arith, equalℤ⁻¹ ⟨ r ⟩ (⟨ a ⟩ %% ⟨ d ⟩ ⊕ ⟨ b ⟩ %% ⟨ d ⟩ ⊝ (⟨ a ⟩ ⊕ ⟨ b ⟩) %% ⟨ d ⟩) e))
 
 -- dividing by y and then by z is dividing by y * z, and the two remainders make up the one
 by-product : (x y z : ℤ) → pos 0 <ℤ y → pos 0 <ℤ z → (x /ℤ y /ℤ z ≡ x /ℤ (y *ℤ z)) × (y *ℤ (x /ℤ y %ℤ z) +ℤ x %ℤ y ≡ x %ℤ (y *ℤ z))
@@ -415,7 +415,7 @@ lemma-mod-adds a b d h =
 pub lemma-mod-equivalence : (x y m : ℤ) → pos 0 <ℤ m → (x %ℤ m ≡ y %ℤ m) ↔ ((x -ℤ y) %ℤ m ≡ pos 0)
 lemma-mod-equivalence x y m h = (
   λ e. sym (lemma-sub-mod-noop x y m) ∙ ap (λ r. (r -ℤ y %ℤ m) %ℤ m) e ∙ ap (λ r. r %ℤ m) (+ℤ-invr (y %ℤ m)) ∙ lemma-small-mod (pos 0) m (≤ℤ-refl (pos 0), h),
-  λ e. same-remainder x y ((x -ℤ y) /ℤ m) m (equalℤ ⟨ x ⟩ (⟨ m ⟩ ⊗ ⟨ (x -ℤ y) /ℤ m ⟩ ⊕ ⟨ y ⟩) (omega (arith, fromEqual (⟨ x ⟩ ⊝ ⟨ y ⟩) (⟨ m ⟩ ⊗ ⟨ (x -ℤ y) /ℤ m ⟩) (multiple (x -ℤ y) m e)))),
+  λ e. same-remainder x y ((x -ℤ y) /ℤ m) m (equalℤ ⟨ x ⟩ (⟨ m ⟩ ⊗ ⟨ (x -ℤ y) /ℤ m ⟩ ⊕ ⟨ y ⟩) (omega (arith, equalℤ⁻¹ (⟨ x ⟩ ⊝ ⟨ y ⟩) (⟨ m ⟩ ⊗ ⟨ (x -ℤ y) /ℤ m ⟩) (multiple (x -ℤ y) m e)))),
 )
 
 -- equal remainders before give equal remainders after multiplying. (Upstream's `is_mod_equivalent` is the statement of

@@ -5,7 +5,7 @@ use mathlib.Core.Logic.{_≢_, _↔_, _⊎_, inl, inr, ⊎-elim}
 use native.Mathlib.Omega.{arith}
 use lib.IntN.{ℤ, pos, negℤ, _+ℤ_, _-ℤ_, _*ℤ_}
 use lib.Signed.{_≤ℤ_, _<ℤ_, clashℤ}
-use Rattle.whole.proofs.Difference.{⟨_⟩, #, _⊕_, _⊝_, _⊗_, ⊖_, equalℤ, leℤ, ltℤ, fromEqual, fromLe, atmost-of, less-of, whole, cross, cross-strict}
+use Rattle.whole.proofs.Difference.{⟨_⟩, #, _⊕_, _⊝_, _⊗_, ⊖_, equalℤ, leℤ, ltℤ, equalℤ⁻¹, leℤ⁻¹, atmost-of, less-of, whole, cross, cross-strict}
 use Rattle.whole.proofs.Order.{≤ℤ-trans, <ℤ→≤ℤ, ≮ℤ→≤ℤ, ≰ℤ→<ℤ, ≢→<ℤ, equal-or-not, positive→≢0}
 
 -- ---- by 0 and by 1
@@ -137,10 +137,10 @@ lemma-mul-increases x y h k = leℤ ⟨ y ⟩ (⟨ x ⟩ ⊗ ⟨ y ⟩) (omega (
 
 -- such a factor lies below 0 or above it, and so does the product of two
 sided : (x y : ℤ) → (x <ℤ pos 0) ⊎ (pos 0 <ℤ x) → (y <ℤ pos 0) ⊎ (pos 0 <ℤ y) → x *ℤ y ≢ pos 0
-sided x y (inl h) (inl k) e = omega (arith, fromEqual (⟨ x ⟩ ⊗ ⟨ y ⟩) (# 0) e, cross-strict (less-of x (pos 0) h) (less-of y (pos 0) k))
-sided x y (inl h) (inr k) e = omega (arith, fromEqual (⟨ x ⟩ ⊗ ⟨ y ⟩) (# 0) e, cross-strict (less-of x (pos 0) h) (less-of (pos 0) y k))
-sided x y (inr h) (inl k) e = omega (arith, fromEqual (⟨ x ⟩ ⊗ ⟨ y ⟩) (# 0) e, cross-strict (less-of (pos 0) x h) (less-of y (pos 0) k))
-sided x y (inr h) (inr k) e = omega (arith, fromEqual (⟨ x ⟩ ⊗ ⟨ y ⟩) (# 0) e, cross-strict (less-of (pos 0) x h) (less-of (pos 0) y k))
+sided x y (inl h) (inl k) e = omega (arith, equalℤ⁻¹ (⟨ x ⟩ ⊗ ⟨ y ⟩) (# 0) e, cross-strict (less-of x (pos 0) h) (less-of y (pos 0) k))
+sided x y (inl h) (inr k) e = omega (arith, equalℤ⁻¹ (⟨ x ⟩ ⊗ ⟨ y ⟩) (# 0) e, cross-strict (less-of x (pos 0) h) (less-of (pos 0) y k))
+sided x y (inr h) (inl k) e = omega (arith, equalℤ⁻¹ (⟨ x ⟩ ⊗ ⟨ y ⟩) (# 0) e, cross-strict (less-of (pos 0) x h) (less-of y (pos 0) k))
+sided x y (inr h) (inr k) e = omega (arith, equalℤ⁻¹ (⟨ x ⟩ ⊗ ⟨ y ⟩) (# 0) e, cross-strict (less-of (pos 0) x h) (less-of (pos 0) y k))
 
 -- x * y != 0 exactly when x != 0 and y != 0
 pub lemma-mul-nonzero : (x y : ℤ) → (x *ℤ y ≢ pos 0) ↔ ((x ≢ pos 0) × (y ≢ pos 0))
@@ -152,10 +152,10 @@ pub lemma-mul-equality-converse : (m x y : ℤ) → m ≢ pos 0 → m *ℤ x ≡
 lemma-mul-equality-converse m x y n e = ⊎-elim (λ h. h) (λ h. absurd (lemma-mul-nonzero m (x -ℤ y) .1 (n, apart h) none)) (equal-or-not x y)
   where
     none : m *ℤ (x -ℤ y) ≡ pos 0
-    none = equalℤ (⟨ m ⟩ ⊗ (⟨ x ⟩ ⊝ ⟨ y ⟩)) (# 0) (omega (arith, fromEqual (⟨ m ⟩ ⊗ ⟨ x ⟩) (⟨ m ⟩ ⊗ ⟨ y ⟩) e))
+    none = equalℤ (⟨ m ⟩ ⊗ (⟨ x ⟩ ⊝ ⟨ y ⟩)) (# 0) (omega (arith, equalℤ⁻¹ (⟨ m ⟩ ⊗ ⟨ x ⟩) (⟨ m ⟩ ⊗ ⟨ y ⟩) e))
 
     apart : x ≢ y → x -ℤ y ≢ pos 0
-    apart h f = h (equalℤ ⟨ x ⟩ ⟨ y ⟩ (omega (arith, fromEqual (⟨ x ⟩ ⊝ ⟨ y ⟩) (# 0) f)))
+    apart h f = h (equalℤ ⟨ x ⟩ ⟨ y ⟩ (omega (arith, equalℤ⁻¹ (⟨ x ⟩ ⊝ ⟨ y ⟩) (# 0) f)))
 
 -- x * z <= y * z and z > 0 give x <= y
 pub lemma-mul-inequality-converse : (x y z : ℤ) → (x *ℤ z) ≤ℤ (y *ℤ z) → pos 0 <ℤ z → x ≤ℤ y
@@ -168,9 +168,9 @@ lemma-mul-strict-inequality-converse x y z e k = ≰ℤ→<ℤ λ h. clashℤ e 
 ordered : (x y : ℤ) → (x <ℤ pos 0) ⊎ (pos 0 <ℤ x) → (y <ℤ pos 0) ⊎ (pos 0 <ℤ y) → pos 0 ≤ℤ (x *ℤ y) → (x ≤ℤ (x *ℤ y)) × (y ≤ℤ (x *ℤ y))
 ordered x y (inl h) (inl k) e = (≤ℤ-trans (<ℤ→≤ℤ h) e, ≤ℤ-trans (<ℤ→≤ℤ k) e)
 ordered x y (inl h) (inr k) e =
-    let f : ⊥ = omega (arith, fromLe (# 0) (⟨ x ⟩ ⊗ ⟨ y ⟩) e, cross-strict (less-of x (pos 0) h) (less-of (pos 0) y k)) in absurd f
+    let f : ⊥ = omega (arith, leℤ⁻¹ (# 0) (⟨ x ⟩ ⊗ ⟨ y ⟩) e, cross-strict (less-of x (pos 0) h) (less-of (pos 0) y k)) in absurd f
 ordered x y (inr h) (inl k) e =
-    let f : ⊥ = omega (arith, fromLe (# 0) (⟨ x ⟩ ⊗ ⟨ y ⟩) e, cross-strict (less-of (pos 0) x h) (less-of y (pos 0) k)) in absurd f
+    let f : ⊥ = omega (arith, leℤ⁻¹ (# 0) (⟨ x ⟩ ⊗ ⟨ y ⟩) e, cross-strict (less-of (pos 0) x h) (less-of y (pos 0) k)) in absurd f
 ordered x y (inr h) (inr k) e =
     (subst (λ z. x ≤ℤ z) (lemma-mul-is-commutative y x) (lemma-mul-increases y x k (<ℤ→≤ℤ h)), lemma-mul-increases x y h (<ℤ→≤ℤ k))
 
