@@ -1,4 +1,5 @@
 -- The laws on checked values, each file standing on those above it. `Promises` states what the functions promise.
+pub mod Arms
 pub mod Limit
 pub mod Powers
 pub mod Logarithms

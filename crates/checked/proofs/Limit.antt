@@ -33,10 +33,6 @@ product-of-zero M a b e = fits M 0 zero-le ∙ ap (checkedOf M) (sym (ap (λ x. 
 
 -- ---- sums and products by cases
 
--- an equation that holds where the operand is known to be x holds of the operand
-pub at {ℓ κ} : {A : Type ℓ} {B : Type κ} (f : A → B) {r : B} {x y : A} → r ≡ f x → y ≡ x → r ≡ f y
-at f e p = e ∙ ap f (sym p)
-
 pub sum-overflowed-left : (M : ℕ) (b : Value) → Overflowed ≡ sumOf M Overflowed b
 sum-overflowed-left M b = over M (suc M + least M b) (omega arith)
 

@@ -1,7 +1,7 @@
 -- What the checked numbers promise, one named theorem for each promise, once for every limit M. A function's contract says that its answer is the
 -- one of these definitions; `Unique` says that no other answer is.
 -- Assumes nothing.
-use mathlib.Core.Path.{_≡_, refl, ap, ap₂, sym, _∙_, subst}
+use mathlib.Core.Path.{_≡_, refl, ap, sym, _∙_, subst}
 use mathlib.Core.Logic.{_↔_}
 use Prim.Native.Nat.{ℕ, _+_, _-_, _*_, _/_, _%_, _^_, _≤_, _<_}
 use native.Mathlib.Nat.{div-add-mod', mod-lt, div-lt-iff-lt-mul, pow-succ'}
@@ -10,11 +10,11 @@ use lib.Pow.{pow-pos}
 use Rattle.whole.specs.logarithm.{log-of}
 use Rattle.whole.proofs.Naturals.{log-of-zero, log-of-floor, log-of-largest}
 use Rattle.checked.specs.declared.types.Checked64.the-variants.{Fits, Overflowed}
-use Rattle.checked.specs.Value.{Value, limitOf, Stands, Within, checkedOf, least, sumOf, productOf}
+use Rattle.checked.specs.Value.{Value, limitOf, Stands, Within, checkedOf, sumOf, productOf}
 use Rattle.checked.specs.Paper.{given, refused, quotientOf, remainderOf, powerOf, logarithmOf}
 use Rattle.checked.proofs.Limit.{fits, over, product-overflowed-zero, product-commutes, sum-overflowed-left}
 use Rattle.checked.proofs.Logarithms as logs
-use Rattle.checked.proofs.Standing.{standing, stands, least-stands, sum-of-values, product-of-values}
+use Rattle.checked.proofs.Standing.{standing, stands, sum-of-values, product-of-values, operation-stands, the-one}
 
 -- ---- the limit, and what a value stands for
 
@@ -33,21 +33,19 @@ number-has-one-value M n c d h k = standing M c n h ∙ sym (standing M d n k)
 
 -- the result stands for the sum of any numbers that the operands stand for
 pub sum-stands : (M : ℕ) (a b : Value) (m n : ℕ) → Stands M a m → Stands M b n → Stands M (sumOf M a b) (m + n)
-sum-stands M a b m n h k =
-    subst (λ c. Stands M c (m + n)) (sym (ap₂ (sumOf M) (standing M a m h) (standing M b n k) ∙ sum-of-values M m n)) (stands M (m + n))
+sum-stands M = operation-stands M (sumOf M) _+_ (sum-of-values M)
 
 pub product-stands : (M : ℕ) (a b : Value) (m n : ℕ) → Stands M a m → Stands M b n → Stands M (productOf M a b) (m * n)
-product-stands M a b m n h k =
-    subst (λ c. Stands M c (m * n)) (sym (ap₂ (productOf M) (standing M a m h) (standing M b n k) ∙ product-of-values M m n)) (stands M (m * n))
+product-stands M = operation-stands M (productOf M) _*_ (product-of-values M)
 
 -- and it is the one value that does
 pub sum-is-the-one
     : (M : ℕ) (a b c : Value) → Within M a → Within M b → ((m n : ℕ) → Stands M a m → Stands M b n → Stands M c (m + n)) → c ≡ sumOf M a b
-sum-is-the-one M a b c wa wb f = standing M c (least M a + least M b) (f (least M a) (least M b) (least-stands M a wa) (least-stands M b wb))
+sum-is-the-one M = the-one M _+_
 
 pub product-is-the-one
     : (M : ℕ) (a b c : Value) → Within M a → Within M b → ((m n : ℕ) → Stands M a m → Stands M b n → Stands M c (m * n)) → c ≡ productOf M a b
-product-is-the-one M a b c wa wb f = standing M c (least M a * least M b) (f (least M a) (least M b) (least-stands M a wa) (least-stands M b wb))
+product-is-the-one M = the-one M _*_
 
 -- overflowed times 0 is 0, whichever comes first; overflowed plus anything stays overflowed
 pub overflowed-times-zero : (M : ℕ) → (productOf M Overflowed (Fits 0) ≡ Fits 0) × (productOf M (Fits 0) Overflowed ≡ Fits 0)

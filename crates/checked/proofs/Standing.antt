@@ -1,7 +1,7 @@
 -- What checked values stand for: each number has one value that stands for it, and sums and products stand for the sums and products of whatever
 -- their operands stand for.
 -- Assumes nothing.
-use mathlib.Core.Path.{_≡_, refl, ap, sym, _∙_, subst}
+use mathlib.Core.Path.{_≡_, refl, ap, ap₂, sym, _∙_, subst}
 use Prim.Native.Nat.{ℕ, suc, _+_, _*_, _<_}
 use native.Mathlib.Nat.{le-refl}
 use native.Mathlib.Decide.{decLe}
@@ -42,3 +42,18 @@ sum-of-values M m n =
 
 pub product-of-values : (M m n : ℕ) → productOf M (checkedOf M m) (checkedOf M n) ≡ checkedOf M (m * n)
 product-of-values M m n = absorb M (least M (checkedOf M m)) n ∙ absorb-left M m n
+
+-- ---- one law for both operations
+
+-- an operation on values that is op on their numbers stands for op of any numbers that the operands stand for
+pub operation-stands
+    : (M : ℕ) (f : Value → Value → Value) (op : ℕ → ℕ → ℕ) → ((m n : ℕ) → f (checkedOf M m) (checkedOf M n) ≡ checkedOf M (op m n)) →
+    (a b : Value) (m n : ℕ) → Stands M a m → Stands M b n → Stands M (f a b) (op m n)
+operation-stands M f op hom a b m n h k =
+    subst (λ c. Stands M c (op m n)) (sym (ap₂ f (standing M a m h) (standing M b n k) ∙ hom m n)) (stands M (op m n))
+
+-- and a value that does so is the value of op at the least numbers of the two
+pub the-one
+    : (M : ℕ) (op : ℕ → ℕ → ℕ) (a b c : Value) → Within M a → Within M b → ((m n : ℕ) → Stands M a m → Stands M b n → Stands M c (op m n)) →
+    c ≡ checkedOf M (op (least M a) (least M b))
+the-one M op a b c wa wb f = standing M c (op (least M a) (least M b)) (f (least M a) (least M b) (least-stands M a wa) (least-stands M b wb))

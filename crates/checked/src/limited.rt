@@ -69,8 +69,7 @@ pub fn checked_rem(a: u64, b: u64) -> Answer64
     Answer64::Value(Checked64::Fits(a % b))
 }
 
-// The power of two numbers, a binary digit of the exponent at a time. The last square is not worked out, so that a square
-// which nobody needs can't overflow.
+// The power of two numbers, a binary digit of the exponent at a time. The last square, which nobody needs, is not worked out.
 pub fn checked_pow(limit: u64, base: u64, exponent: u64) -> Checked64
     ensures { λ r. ⌜ r ≡ checkedOf limit (base ^ exponent) ⌝ }
 {

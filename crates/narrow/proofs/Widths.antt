@@ -12,7 +12,7 @@ use Rattle.whole.specs.logarithm.{log-of}
 use Rattle.checked.specs.declared.types.Checked64.the-variants.{Fits, Overflowed}
 use Rattle.checked.specs.declared.types.Answer64.{Answer64}
 use Rattle.checked.specs.declared.types.Answer64.the-variants as answer
-use Rattle.checked.specs.Value.{Value, checkedOf, sumOf, productOf, Within}
+use Rattle.checked.specs.Value.{Value, checkedOf, least, Within}
 use Rattle.checked.specs.Paper.{Paper, paper, given, refused, quotientOf, remainderOf, powerOf, logarithmOf}
 use Rattle.narrow.specs.Widths.{Wide, clampOf, clampedOf}
 use Rattle.checked.proofs.Limit.{fits, over}
@@ -32,19 +32,14 @@ clamp-checked : (M n : ℕ) → clampOf M (checkedOf M n) ≡ checkedOf M n
 clamp-checked M n =
     elim (decLe n M) [ yes h ↦ ap (clampOf M) (sym (fits M n h)) | no k ↦ ap (clampOf M) (sym (over M n (omega arith))) ∙ over M n (omega arith) ]
 
-module _ (M : ℕ) {a a' x p : Value} (narrowed : p ≡ clampOf M x) where
-  pub sum-at : {b b' : Value} → x ≡ sumOf M a' b' → a' ≡ a → b' ≡ b → p ≡ sumOf M a b
-  sum-at {b' = b'} e ea eb = narrowed ∙ ap (clampOf M) e ∙ clamp-checked M _ ∙ ap (λ v. sumOf M v b') ea ∙ ap (sumOf M a) eb
-
-  pub product-at : {b b' : Value} → x ≡ productOf M a' b' → a' ≡ a → b' ≡ b → p ≡ productOf M a b
-  product-at {b' = b'} e ea eb = narrowed ∙ ap (clampOf M) e ∙ clamp-checked M _ ∙ ap (λ v. productOf M v b') ea ∙ ap (productOf M a) eb
-
+-- op is + or *: `sumOf` and `productOf` are the value of op at the least numbers of their operands
+module _ (M : ℕ) (op : ℕ → ℕ → ℕ) {a a' x p : Value} (narrowed : p ≡ clampOf M x) where
   -- with a plain number for the second operand
-  pub sum-with : (n : ℕ) → x ≡ sumOf M a' (Fits n) → a' ≡ a → p ≡ sumOf M a (Fits n)
-  sum-with n e ea = narrowed ∙ ap (clampOf M) e ∙ clamp-checked M _ ∙ ap (λ v. sumOf M v (Fits n)) ea
+  pub value-with-number : (n : ℕ) → x ≡ checkedOf M (op (least M a') n) → a' ≡ a → p ≡ checkedOf M (op (least M a) n)
+  value-with-number n e ea = narrowed ∙ ap (clampOf M) e ∙ clamp-checked M (op (least M a') n) ∙ ap (λ v. checkedOf M (op (least M v) n)) ea
 
-  pub product-with : (n : ℕ) → x ≡ productOf M a' (Fits n) → a' ≡ a → p ≡ productOf M a (Fits n)
-  product-with n e ea = narrowed ∙ ap (clampOf M) e ∙ clamp-checked M _ ∙ ap (λ v. productOf M v (Fits n)) ea
+  pub value-with-value : {b b' : Value} → x ≡ checkedOf M (op (least M a') (least M b')) → a' ≡ a → b' ≡ b → p ≡ checkedOf M (op (least M a) (least M b))
+  value-with-value {b' = b'} e ea eb = value-with-number (least M b') e ea ∙ ap (λ v. checkedOf M (op (least M a) (least M v))) eb
 
 -- ---- answers
 

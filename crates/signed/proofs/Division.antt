@@ -16,7 +16,7 @@ use mir.Val.{bits, hbits, SFits, toZ, ofZ}
 use mir.Facts.{toZ-ofZ}
 use Rattle.whole.specs.div-mod.{rust-div, rust-rem}
 use Rattle.whole.proofs.Truncating.{rust-div-is, rust-rem-is}
-use Rattle.signed.specs.Signed.{refused, number, isZero, inRange, quotientOf, remainderOf}
+use Rattle.signed.specs.Signed.{refused, number, isZero, smallest, inRange, quotientOf, remainderOf}
 
 -- ---- the width's two halves
 
@@ -34,9 +34,12 @@ half w32 = refl
 half w64 = refl
 half w128 = refl
 
--- the smallest number of the width
-abbrev pub smallest : Width → ℤ
-smallest w = negsuc (2 ^ hbits w - 1)
+-- the smallest number of the width, by the width's lower half
+abbrev lowest : Width → ℤ
+lowest w = negsuc (2 ^ hbits w - 1)
+
+lowest-is : (w : Width) → lowest w ≡ smallest (bits w)
+lowest-is w = ap (λ k. negsuc (2 ^ k - 1)) (half w)
 
 -- ---- what the bits say
 
@@ -48,9 +51,9 @@ bits-of-minus-one : (w : Width) (z : ℤ) → SFits w z → ofZ w z ≡ 2 ^ bits
 bits-of-minus-one w (pos n) f e = let g : ⊥ = omega (arith, f .sfits, halves w) in absurd g
 bits-of-minus-one w (negsuc n) f e = let g : n ≡ 0 = omega (arith, f .sfits, halves w) in ap negsuc g
 
-bits-of-smallest : (w : Width) (z : ℤ) → SFits w z → ofZ w z ≡ 2 ^ hbits w → z ≡ smallest w
-bits-of-smallest w (pos n) f e = let g : ⊥ = omega (arith, f .sfits) in absurd g
-bits-of-smallest w (negsuc n) f e = let g : n ≡ 2 ^ hbits w - 1 = omega (arith, f .sfits, halves w) in ap negsuc g
+bits-of-lowest : (w : Width) (z : ℤ) → SFits w z → ofZ w z ≡ 2 ^ hbits w → z ≡ lowest w
+bits-of-lowest w (pos n) f e = let g : ⊥ = omega (arith, f .sfits) in absurd g
+bits-of-lowest w (negsuc n) f e = let g : n ≡ 2 ^ hbits w - 1 = omega (arith, f .sfits, halves w) in ap negsuc g
 
 not-zero : (w : Width) (z : ℤ) → (ofZ w z ≡ 0 → ⊥) → z ≢ pos 0
 not-zero w z n e = n (ap (ofZ w) e)
@@ -58,8 +61,8 @@ not-zero w z n e = n (ap (ofZ w) e)
 not-minus-one : (w : Width) (z : ℤ) → (ofZ w z ≡ 2 ^ bits w - 1 → ⊥) → z ≢ negsuc 0
 not-minus-one w z n e = n (ap (ofZ w) e)
 
-not-smallest : (w : Width) (z : ℤ) → (ofZ w z ≡ 2 ^ hbits w → ⊥) → z ≢ smallest w
-not-smallest w z n e = n (ap (ofZ w) e ∙ omega (arith, halves w, pow-pos (hbits w)))
+not-lowest : (w : Width) (z : ℤ) → (ofZ w z ≡ 2 ^ hbits w → ⊥) → z ≢ lowest w
+not-lowest w z n e = n (ap (ofZ w) e ∙ omega (arith, halves w, pow-pos (hbits w)))
 
 -- ---- the quotient fits, but for the smallest number by -1
 
@@ -95,32 +98,32 @@ unfolding quotientOf
 by-tests W a b t z r = ap₂ (λ x y. cond x (refused 1) (cond y (number (rust-div a b)) (refused 4))) z r
 
 -- the quotient's range, as the definition tests it
-pub quotient-in-range : (w : Width) (a b : ℤ) → SFits w a → (b ≢ negsuc 0) ⊎ (a ≢ smallest w) → inRange (bits w) (rust-div a b) ≡ true
+pub quotient-in-range : (w : Width) (a b : ℤ) → SFits w a → (b ≢ negsuc 0) ⊎ (a ≢ smallest (bits w)) → inRange (bits w) (rust-div a b) ≡ true
 quotient-in-range w a b fa o =
     ap (inRange (bits w)) (rust-div-is a b)
-    ∙ lt-ltb (mag (quotZ a b)) (2 ^ (bits w - 1)) (subst (λ k. mag (quotZ a b) < 2 ^ k) (half w) (quotient-fits (2 ^ hbits w) a b (fa .sfits) o))
+    ∙ lt-ltb (mag (quotZ a b)) (2 ^ (bits w - 1)) (subst (λ k. mag (quotZ a b) < 2 ^ k) (half w) (quotient-fits (2 ^ hbits w) a b (fa .sfits) (subst (λ z. (b ≢ negsuc 0) ⊎ (a ≢ z)) (sym (lowest-is w)) o)))
 
-pub quotient-out-of-range : (w : Width) (a b : ℤ) → a ≡ smallest w → b ≡ negsuc 0 → inRange (bits w) (rust-div a b) ≡ false
+pub quotient-out-of-range : (w : Width) (a b : ℤ) → a ≡ smallest (bits w) → b ≡ negsuc 0 → inRange (bits w) (rust-div a b) ≡ false
 quotient-out-of-range w a b ea eb =
     let H = 2 ^ hbits w in
-    ap (inRange (bits w)) (ap₂ rust-div ea eb ∙ rust-div-is (smallest w) (negsuc 0) ∙ ap pos (omega (arith, div-one (suc (H - 1)), pow-pos (hbits w))))
+    ap (inRange (bits w)) (ap₂ rust-div (ea ∙ sym (lowest-is w)) eb ∙ rust-div-is (lowest w) (negsuc 0) ∙ ap pos (omega (arith, div-one (suc (H - 1)), pow-pos (hbits w))))
     ∙ le-ltb H (2 ^ (bits w - 1)) (omega (arith, ap (λ k. 2 ^ k) (half w)))
 
 module _ (w : Width) (a b : ℤ) where
   -- the smallest number by -1 is refused: the quotient is one too large
   pub quotient-too-large : SFits w a → SFits w b → ofZ w a ≡ 2 ^ hbits w → ofZ w b ≡ 2 ^ bits w - 1 → refused 4 ≡ quotientOf (bits w) a b
   quotient-too-large fa fb ta tb =
-      let ea = bits-of-smallest w a fa ta in
+      let ea = bits-of-lowest w a fa ta in
       let eb = bits-of-minus-one w b fb tb in
-      sym (by-tests (bits w) a b false (ap isZero eb) (quotient-out-of-range w a b ea eb))
+      sym (by-tests (bits w) a b false (ap isZero eb) (quotient-out-of-range w a b (ea ∙ lowest-is w) eb))
 
   -- b is not 0, and it is not the smallest number by -1: as tests of the bits have it
   module _ (fa : SFits w a) (fb : SFits w b) (n : ofZ w b ≡ 0 → ⊥) (o : (ofZ w b ≡ 2 ^ bits w - 1 → ⊥) ⊎ (ofZ w a ≡ 2 ^ hbits w → ⊥)) where
     read : quotZ (toZ w (ofZ w a)) (toZ w (ofZ w b)) ≡ quotZ a b
     read = ap₂ quotZ (toZ-ofZ fa) (toZ-ofZ fb)
 
-    apart : (b ≢ negsuc 0) ⊎ (a ≢ smallest w)
-    apart = ⊎-elim (λ m. inl (not-minus-one w b m)) (λ m. inr (not-smallest w a m)) o
+    apart : (b ≢ negsuc 0) ⊎ (a ≢ lowest w)
+    apart = ⊎-elim (λ m. inl (not-minus-one w b m)) (λ m. inr (not-lowest w a m)) o
 
     fits : SFits w (quotZ a b)
     fits = record { sfits = quotient-fits (2 ^ hbits w) a b (fa .sfits) apart }
@@ -130,7 +133,7 @@ module _ (w : Width) (a b : ℤ) where
 
     pub quotient-is : number (toZ w (ofZ w (quotZ (toZ w (ofZ w a)) (toZ w (ofZ w b))))) ≡ quotientOf (bits w) a b
     quotient-is =
-        ap number (ap (λ q. toZ w (ofZ w q)) read ∙ toZ-ofZ fits ∙ sym (rust-div-is a b)) ∙ sym (by-tests (bits w) a b true (zero-or-not b (not-zero w b n)) (quotient-in-range w a b fa apart))
+        ap number (ap (λ q. toZ w (ofZ w q)) read ∙ toZ-ofZ fits ∙ sym (rust-div-is a b)) ∙ sym (by-tests (bits w) a b true (zero-or-not b (not-zero w b n)) (quotient-in-range w a b fa (subst (λ z. (b ≢ negsuc 0) ⊎ (a ≢ z)) (lowest-is w) apart)))
 
   pub remainder-is : SFits w a → SFits w b → (ofZ w b ≡ 0 → ⊥) → number (toZ w (ofZ w (remZ (toZ w (ofZ w a)) (toZ w (ofZ w b))))) ≡ remainderOf a b
   unfolding remainderOf

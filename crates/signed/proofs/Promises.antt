@@ -14,8 +14,8 @@ use mir.Val.{bits, SFits}
 use Rattle.whole.specs.div-mod.{rust-div}
 use Rattle.whole.proofs.Difference.{⟨_⟩, #, ⊖_, leℤ, ltℤ, leℤ⁻¹, ltℤ⁻¹}
 use Rattle.whole.proofs.Order.{equal-or-not}
-use Rattle.signed.specs.Signed.{inRange}
-use Rattle.signed.proofs.Division.{smallest, quotient-out-of-range, quotient-in-range}
+use Rattle.signed.specs.Signed.{smallest, inRange}
+use Rattle.signed.proofs.Division.{quotient-out-of-range, quotient-in-range}
 
 -- the range of W bits is from -2^(W - 1) to 2^(W - 1) - 1
 pub range : (W : ℕ) (z : ℤ) → (inRange W z ≡ true) ↔ ((negℤ (pos (2 ^ (W - 1))) ≤ℤ z) × (z <ℤ pos (2 ^ (W - 1))))
@@ -31,10 +31,10 @@ range W (negsuc n) =
     )
 
 -- of two numbers of a width, only the smallest by -1 has a quotient outside it
-pub four-exactly : (w : Width) (a b : ℤ) → SFits w a → (inRange (bits w) (rust-div a b) ≡ false) ↔ ((a ≡ smallest w) × (b ≡ negsuc 0))
+pub four-exactly : (w : Width) (a b : ℤ) → SFits w a → (inRange (bits w) (rust-div a b) ≡ false) ↔ ((a ≡ smallest (bits w)) × (b ≡ negsuc 0))
 four-exactly w a b fa = (
   λ e. ⊎-elim (λ p. ⊎-elim (λ q. (p, q)) (λ n. absurd (true≢false (sym (quotient-in-range w a b fa (inl n)) ∙ e))) (equal-or-not b (negsuc 0)))
       (λ n. absurd (true≢false (sym (quotient-in-range w a b fa (inr n)) ∙ e)))
-      (equal-or-not a (smallest w)),
+      (equal-or-not a (smallest (bits w))),
   λ p. quotient-out-of-range w a b (p .0) (p .1),
 )

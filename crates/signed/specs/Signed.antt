@@ -49,6 +49,10 @@ isZero (pos zero) = true
 isZero (pos (suc n)) = false
 isZero (negsuc n) = false
 
+-- -2^(W - 1), the smallest number of W bits
+abbrev pub smallest : ℕ → ℤ
+smallest W = negsuc (2 ^ (W - 1) - 1)
+
 -- -2^(W - 1) <= z <= 2^(W - 1) - 1: `mag` is z itself from 0 up, and -z - 1 below 0
 abbrev pub inRange : ℕ → ℤ → Bool
 inRange W z = ltb (mag z) (2 ^ (W - 1))

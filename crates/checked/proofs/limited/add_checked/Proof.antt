@@ -2,7 +2,8 @@
 -- Assumes nothing.
 use borrow.Author.Needs.{needs}
 use Rattle.checked.specs.Value.{sumOf}
-use Rattle.checked.proofs.Limit.{at, sum-overflowed-right}
+use Rattle.checked.proofs.Arms.{at}
+use Rattle.checked.proofs.Limit.{sum-overflowed-right}
 use Rattle.checked.proofs.limited.add_checked.Statement.{statement}
 use Rattle.checked.proofs.limited.add_checked.Tie as tie
 

@@ -3,7 +3,8 @@
 use borrow.Author.Needs.{needs}
 use Rattle.checked.specs.declared.types.Checked64.the-variants.{Fits}
 use Rattle.checked.specs.Value.{sumOf}
-use Rattle.checked.proofs.Limit.{at, sum-overflowed-left}
+use Rattle.checked.proofs.Arms.{at}
+use Rattle.checked.proofs.Limit.{sum-overflowed-left}
 use Rattle.checked.proofs.limited.add_value.Statement.{statement}
 use Rattle.checked.proofs.limited.add_value.Tie as tie
 

@@ -2,7 +2,7 @@
 -- Assumes nothing.
 use borrow.Author.Needs.{needs}
 use Rattle.checked.specs.Value.{bothOf}
-use Rattle.checked.proofs.Limit.{at}
+use Rattle.checked.proofs.Arms.{at}
 use Rattle.checked.proofs.limited.both.Statement.{statement}
 use Rattle.checked.proofs.limited.both.Tie as tie
 

@@ -2,7 +2,7 @@
 -- Assumes nothing.
 use borrow.Author.Needs.{needs}
 use Rattle.checked.specs.Value.{productOf}
-use Rattle.checked.proofs.Limit.{at}
+use Rattle.checked.proofs.Arms.{at}
 use Rattle.checked.proofs.limited.mul_checked.Statement.{statement}
 use Rattle.checked.proofs.limited.mul_checked.Tie as tie
 

@@ -3,7 +3,7 @@
 use borrow.Author.Needs.{needs}
 use Rattle.checked.specs.declared.types.Checked64.the-variants.{Fits}
 use Rattle.checked.specs.Value.{productOf}
-use Rattle.checked.proofs.Limit.{at}
+use Rattle.checked.proofs.Arms.{at}
 use Rattle.checked.proofs.limited.mul_value.Statement.{statement}
 use Rattle.checked.proofs.limited.mul_value.Tie as tie
 

@@ -2,7 +2,7 @@
 -- Assumes nothing.
 use mathlib.Core.Path.{ap, sym, _∙_}
 use Rattle.checked.specs.Paper.{given, onBoth, powersOf}
-use Rattle.checked.proofs.Limit.{at}
+use Rattle.checked.proofs.Arms.{at}
 use borrow.Author.Needs.{needs}
 use Rattle.checked.proofs.limited.power.Statement.{statement}
 use Rattle.checked.proofs.limited.power.Tie as tie

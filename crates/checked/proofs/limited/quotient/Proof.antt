@@ -2,7 +2,7 @@
 -- Assumes nothing.
 use mathlib.Core.Path.{sym, _∙_}
 use Rattle.checked.specs.Paper.{onBoth, dividedBy}
-use Rattle.checked.proofs.Limit.{at}
+use Rattle.checked.proofs.Arms.{at}
 use borrow.Author.Needs.{needs}
 use Rattle.checked.proofs.limited.quotient.Statement.{statement}
 use Rattle.checked.proofs.limited.quotient.Tie as tie

@@ -4,7 +4,8 @@ use mathlib.Core.Path.{_∙_}
 use borrow.Author.Needs.{needs}
 use Rattle.checked.specs.declared.types.Checked64.the-variants.{Fits, Overflowed}
 use Rattle.checked.specs.Value.{productOf}
-use Rattle.checked.proofs.Limit.{at, product-commutes, product-overflowed-both}
+use Rattle.checked.proofs.Arms.{at}
+use Rattle.checked.proofs.Limit.{product-commutes, product-overflowed-both}
 use Rattle.checked.proofs.limited.times_overflowed.Statement.{statement}
 use Rattle.checked.proofs.limited.times_overflowed.Tie as tie
 

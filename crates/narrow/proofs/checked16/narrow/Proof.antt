@@ -4,7 +4,8 @@ use mathlib.Core.Path.{refl}
 use borrow.Author.Needs.{needs}
 use Rattle.checked.specs.Value.{limitOf}
 use Rattle.narrow.specs.Widths.{clampOf}
-use Rattle.checked.proofs.Limit.{at, fits, over}
+use Rattle.checked.proofs.Arms.{at}
+use Rattle.checked.proofs.Limit.{fits, over}
 use Rattle.narrow.proofs.checked16.narrow.Statement.{statement}
 use Rattle.narrow.proofs.checked16.narrow.Tie as tie
 

@@ -4,7 +4,7 @@ use mathlib.Core.Path.{refl}
 use borrow.Author.Needs.{needs}
 use Rattle.checked.specs.Value.{limitOf}
 use Rattle.narrow.specs.Widths.{clampedOf}
-use Rattle.checked.proofs.Limit.{at}
+use Rattle.checked.proofs.Arms.{at}
 use Rattle.narrow.proofs.checked32.narrow_answer.Statement.{statement}
 use Rattle.narrow.proofs.checked32.narrow_answer.Tie as tie
 

@@ -2,7 +2,7 @@
 -- Assumes nothing.
 use mathlib.Core.Path.{refl}
 use Rattle.checked.specs.Paper.{plainOf}
-use Rattle.checked.proofs.Limit.{at}
+use Rattle.checked.proofs.Arms.{at}
 use borrow.Author.Needs.{needs}
 use Rattle.checked.proofs.types.Checked64.unwrap.Statement.{statement}
 use Rattle.checked.proofs.types.Checked64.unwrap.Tie as tie

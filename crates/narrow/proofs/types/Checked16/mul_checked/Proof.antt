@@ -1,8 +1,9 @@
 -- `types::Checked16::mul_checked` meets its contract.
 -- Assumes nothing.
+use Prim.Native.Nat.{_*_}
 use borrow.Author.Needs.{needs}
 use Rattle.checked.specs.Value.{limitOf}
-use Rattle.narrow.proofs.Widths.{product-at}
+use Rattle.narrow.proofs.Widths.{value-with-value}
 use Rattle.narrow.proofs.types.Checked16.mul_checked.Statement.{statement}
 use Rattle.narrow.proofs.types.Checked16.mul_checked.Tie as tie
 
@@ -19,7 +20,7 @@ narrow-requires : tie.Need-narrow-requires
 narrow-requires c κs = search needs
 
 returns : tie.Need-returns
-returns c = product-at (limitOf 16) (c .narrow .ensures) (c .before .mul-checked .ensures) (c .before .before .before .wide .ensures .same) (c .before .before .wide2 .ensures .same)
+returns c = value-with-value (limitOf 16) _*_ (c .narrow .ensures) (c .before .mul-checked .ensures) (c .before .before .before .wide .ensures .same) (c .before .before .wide2 .ensures .same)
 
 pub mul-checked-spec : {M : Type 1} → statement M
 mul-checked-spec =

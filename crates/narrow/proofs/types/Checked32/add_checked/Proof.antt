@@ -1,8 +1,9 @@
 -- `types::Checked32::add_checked` meets its contract.
 -- Assumes nothing.
+use Prim.Native.Nat.{_+_}
 use borrow.Author.Needs.{needs}
 use Rattle.checked.specs.Value.{limitOf}
-use Rattle.narrow.proofs.Widths.{sum-at}
+use Rattle.narrow.proofs.Widths.{value-with-value}
 use Rattle.narrow.proofs.types.Checked32.add_checked.Statement.{statement}
 use Rattle.narrow.proofs.types.Checked32.add_checked.Tie as tie
 
@@ -19,7 +20,7 @@ narrow-requires : tie.Need-narrow-requires
 narrow-requires c κs = search needs
 
 returns : tie.Need-returns
-returns c = sum-at (limitOf 32) (c .narrow .ensures) (c .before .add-checked .ensures) (c .before .before .before .wide .ensures .same) (c .before .before .wide2 .ensures .same)
+returns c = value-with-value (limitOf 32) _+_ (c .narrow .ensures) (c .before .add-checked .ensures) (c .before .before .before .wide .ensures .same) (c .before .before .wide2 .ensures .same)
 
 pub add-checked-spec : {M : Type 1} → statement M
 add-checked-spec =

@@ -2,7 +2,7 @@
 -- Assumes nothing.
 use mathlib.Core.Path.{refl}
 use borrow.Author.Needs.{needs}
-use Rattle.checked.proofs.Limit.{at}
+use Rattle.checked.proofs.Arms.{at}
 use Rattle.narrow.specs.Widths.{value32}
 use Rattle.narrow.proofs.types.Checked32.to_option.Statement.{statement}
 use Rattle.narrow.proofs.types.Checked32.to_option.Tie as tie

@@ -3,7 +3,7 @@
 use mathlib.Core.Path.{refl}
 use borrow.Author.Needs.{needs}
 use Rattle.checked.specs.Paper.{plainOf}
-use Rattle.checked.proofs.Limit.{at}
+use Rattle.checked.proofs.Arms.{at}
 use Rattle.narrow.specs.Widths.{value32}
 use Rattle.narrow.proofs.types.Checked32.unwrap.Statement.{statement}
 use Rattle.narrow.proofs.types.Checked32.unwrap.Tie as tie

@@ -4,7 +4,7 @@ use mathlib.Core.Path.{refl}
 use native.Mathlib.Omega.{arith}
 use borrow.Author.Needs.{needs}
 use Rattle.narrow.specs.Widths.{value32}
-use Rattle.checked.proofs.Limit.{at}
+use Rattle.checked.proofs.Arms.{at}
 use Rattle.narrow.proofs.Widths.{wide-fits, wide-over}
 use Rattle.narrow.proofs.types.Checked32.wide.Statement.{statement}
 use Rattle.narrow.proofs.types.Checked32.wide.Tie as tie
