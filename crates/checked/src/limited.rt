@@ -36,10 +36,16 @@ pub fn checked_add(limit: u64, a: u64, b: u64) -> Checked64
     Checked64::Overflowed
 }
 
-// The product of two numbers: b is compared with the largest factor that a has below the limit.
+// The product of two numbers. Where both are below 2^32 it can't wrap; otherwise b is compared with the largest factor that a
+// has below the limit, which takes a division.
 pub fn checked_mul(limit: u64, a: u64, b: u64) -> Checked64
     ensures { λ r. ⌜ r ≡ checkedOf limit (a * b) ⌝ }
 {
+    if a < 4294967296 {
+        if b < 4294967296 {
+            return checked_of(limit, a * b);
+        }
+    }
     if a == 0 {
         return Checked64::Fits(0);
     }
@@ -149,8 +155,18 @@ pub fn mul_value(limit: u64, c: Checked64, n: u64) -> Checked64
     }
 }
 
-// The product of two checked values: an overflowed one by 0 is 0, whichever comes first.
+// The product of two checked values. Both marks are looked at together, since most values fit.
 pub fn mul_checked(limit: u64, a: Checked64, b: Checked64) -> Checked64
+    ensures { λ r. ⌜ r ≡ productOf limit a b ⌝ }
+{
+    match both(a, b) {
+        Both::Numbers(m, n) => checked_mul(limit, m, n),
+        Both::Overflowed => mul_apart(limit, a, b),
+    }
+}
+
+// The same, one value after the other: an overflowed one by 0 is 0, whichever comes first.
+fn mul_apart(limit: u64, a: Checked64, b: Checked64) -> Checked64
     ensures { λ r. ⌜ r ≡ productOf limit a b ⌝ }
 {
     match b {
