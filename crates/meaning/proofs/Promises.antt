@@ -1,0 +1,61 @@
+-- What the meaning and the count of steps promise, one named theorem for each promise, once for every limit M or every width W.
+-- `Single` has what a single operation is worth and exactly when it is refused, `SameAsChecked` that checked values answer the same, `Examples` the table of
+-- small runs.
+-- Assumes nothing.
+use mathlib.Core.Path.{_≡_, subst}
+use mathlib.Core.List.{List}
+use Prim.Native.Nat.{ℕ, suc, _+_, _-_, _*_, _/_, _%_, _^_, _≤_, _<_}
+use native.Mathlib.Omega.{arith}
+use lib.Dec.{leb}
+use lib.ListN.{length}
+use Rattle.checked.specs.Value.{limitOf}
+use Rattle.shape.specs.Items.{Operation, Item}
+use Rattle.shape.specs.Shape.{Good}
+use Rattle.meaning.specs.Meaning.{failed, refusal, meaning}
+use Rattle.meaning.specs.Count.{digits, further, count}
+use Rattle.meaning.specs.Reaching.{reachingKinds, reachingNumbers, Reaches}
+pub use Rattle.meaning.proofs.Single.{sum-and-product, quotient-and-remainder, powers, logarithms}
+pub use Rattle.meaning.proofs.Single.{sum-and-product-never-refused, above-refused, divisor-zero-refused, divisor-not-refused}
+pub use Rattle.meaning.proofs.Single.{power-not-refused, base-below-two-refused, base-not-refused}
+pub use Rattle.meaning.proofs.SameAsChecked.{same-as-checked}
+pub use Rattle.meaning.proofs.Examples.{small-meanings}
+use Rattle.meaning.proofs.Digits as written
+use Rattle.meaning.proofs.Bound as bound
+use Rattle.meaning.proofs.Reaching.{reached}
+use Rattle.meaning.proofs.Failing as failing
+
+-- ---- the meaning
+
+-- the meaning's refusals are 1, 2 and 3, at one of the items
+pub meaning-fails-only : (M : ℕ) (xs : List Item) (code place : ℕ) → meaning M xs ≡ failed code place → (0 < code) × (code ≤ 3) × (place < length xs)
+meaning-fails-only = failing.meaning-fails-only
+
+-- ---- the count of steps
+
+-- 0 has no binary digit; a number of d digits is from 2 ^ (d - 1) to below 2 ^ d
+pub zero-has-no-digit : digits 0 ≡ 0
+zero-has-no-digit = written.digits-of-zero
+
+pub digits-mean : (n : ℕ) → 0 < n → (2 ^ (digits n - 1) ≤ n) × (n < 2 ^ digits n)
+digits-mean = written.digits-floor
+
+-- so each halving takes one away
+pub half-has-one-less : (e : ℕ) → 0 < e → digits e ≡ suc (digits (e / 2))
+half-has-one-less = written.digits-of-half
+
+-- an operation of W bits takes at most W further steps
+pub further-at-most
+    : (W : ℕ) (o : Operation) (l r : ℕ) → 0 < W →
+    refusal o (leb l (limitOf W)) (leb r (limitOf W)) l r ≡ 0 → further o (leb l (limitOf W)) (leb r (limitOf W)) l r ≤ W
+further-at-most = bound.further-at-most
+
+-- a well-formed recipe of n items takes at most n + W (n - 1) / 2 steps
+pub count-bound : (W : ℕ) (xs : List Item) → 0 < W → Good (limitOf W) 0 xs → count (limitOf W) xs ≤ length xs + W * (length xs - 1) / 2
+count-bound = bound.count-bound
+
+-- and for every odd n some recipe of n items reaches that
+pub bound-reached : (W n : ℕ) → 0 < W → n % 2 ≡ 1 → (ks : List ℕ) × (ns : List ℕ) × Reaches W n ks ns
+bound-reached W n w h =
+    let m = n / 2 in
+    let e : suc (m + m) ≡ n = omega arith in
+    (reachingKinds m, reachingNumbers W m, subst (λ k. Reaches W k (reachingKinds m) (reachingNumbers W m)) e (reached W m w))

@@ -1,0 +1,83 @@
+-- The bound on the count of steps is reached: 1, then m times the limit M and a power. The power is 1 ^ M, its exponent has W digits, and the hand is 1
+-- again after it.
+-- Assumes nothing.
+use mathlib.Core.Path.{_≡_, refl, ap, ap₂, sym, _∙_}
+use mathlib.Core.Bool.{true, false, cond, _&&_}
+use mathlib.Core.List.{List, [], _∷_}
+use Prim.Native.Nat.{ℕ, zero, suc, _+_, _-_, _*_, _/_, _^_, _≤_, _<_}
+use native.Mathlib.Nat.{le-refl}
+use native.Mathlib.Omega.{arith}
+use lib.Dec.{eqb, leb}
+use lib.IntN.{natAbs}
+use lib.ListN.{length}
+use lib.Pow.{pow-mono}
+use borrow.Author.Tests.{le-leb, le-ltb}
+use Rattle.whole.proofs.power.{lemma1-pow}
+use Rattle.whole.proofs.Naturals.{natural-pow}
+use Rattle.checked.specs.Value.{limitOf}
+use Rattle.shape.specs.Items.{kindOf, Item, items}
+use Rattle.shape.specs.Shape.{Good}
+use Rattle.meaning.specs.Meaning.{Meant, number, failed, meaningFrom}
+use Rattle.meaning.specs.Count.{digits, countFrom}
+use Rattle.meaning.specs.Reaching.{powersKinds, powersNumbers, reachingKinds, reachingNumbers, Reaches}
+use Rattle.meaning.proofs.Digits.{digits-of-limit}
+use Rattle.meaning.proofs.Bound.{halved}
+
+-- ---- a power of 1 by the limit, over any limit M of at least 1
+
+one-pow : (e : ℕ) → 1 ^ e ≡ 1
+one-pow e = ap natAbs (sym (natural-pow 1 e) ∙ lemma1-pow e)
+
+powers : ℕ → ℕ → List Item
+powers M m = items (powersKinds m) (powersNumbers M m)
+
+module _ (M : ℕ) (h : 1 ≤ M) where
+  both-fit : leb 1 M && leb M M ≡ true
+  both-fit = ap₂ (λ s t. s && t) (le-leb 1 M h) (le-leb M M (le-refl M))
+
+  powers-good : (m : ℕ) → Good M 1 (powers M m)
+  unfolding kindOf powers
+  powers-good zero = refl
+  powers-good (suc m) = (ap (λ t. cond t 9 0) (le-ltb M M (le-refl M)), (refl, powers-good m))
+
+  powers-meaning : (m i : ℕ) → meaningFrom M i (1 ∷ []) (powers M m) ≡ number 1
+  unfolding kindOf meaningFrom powers
+  powers-meaning zero i = refl
+  powers-meaning (suc m) i =
+      ap {B = Meant} (λ t. elim (eqb (cond t 0 3) 0) [ true ↦ meaningFrom M (suc (suc i)) (1 ^ M ∷ []) (powers M m) | false ↦ failed (cond t 0 3) (suc i) ]) both-fit
+      ∙ ap (λ p. meaningFrom M (suc (suc i)) (p ∷ []) (powers M m)) (one-pow M)
+      ∙ powers-meaning m (suc (suc i))
+
+  powers-count : (m : ℕ) → countFrom M (1 ∷ []) (powers M m) ≡ m + m + digits M * m
+  unfolding kindOf countFrom powers
+  powers-count zero = omega arith
+  powers-count (suc m) =
+      ap (λ t. suc (0 + elim (eqb (cond t 0 3) 0) [ true ↦ suc (cond t (digits M) 0 + countFrom M (1 ^ M ∷ []) (powers M m)) | false ↦ 1 ])) both-fit
+      ∙ ap (λ p. suc (0 + suc (digits M + countFrom M (p ∷ []) (powers M m)))) (one-pow M)
+      ∙ ap (λ c. suc (0 + suc (digits M + c))) (powers-count m)
+      ∙ omega arith
+
+-- ---- the recipes at the limit of W bits
+
+kinds-length : (m : ℕ) → length (powersKinds m) ≡ m + m
+kinds-length zero = refl
+kinds-length (suc m) = ap (λ n. suc (suc n)) (kinds-length m) ∙ omega arith
+
+numbers-length : (M m : ℕ) → length (powersNumbers M m) ≡ m + m
+numbers-length M zero = refl
+numbers-length M (suc m) = ap (λ n. suc (suc n)) (numbers-length M m) ∙ omega arith
+
+pub reached : (W m : ℕ) → 0 < W → Reaches W (suc (m + m)) (reachingKinds m) (reachingNumbers W m)
+unfolding kindOf powers meaningFrom countFrom
+reached W m w =
+    (ap suc (kinds-length m), ap suc (numbers-length M m), (ap (λ t. cond t 9 0) (le-ltb M 1 some), powers-good M some m), counted, powers-meaning M some m 1)
+  where
+    M : ℕ
+    M = limitOf W
+
+    some : 1 ≤ M
+    some = let p : 2 ^ 1 ≤ 2 ^ W = pow-mono w in omega arith
+
+    counted : suc (0 + countFrom M (1 ∷ []) (powers M m)) ≡ suc (m + m) + W * (suc (m + m) - 1) / 2
+    counted =
+        ap (λ c. suc (0 + c)) (powers-count M some m ∙ ap (λ d. m + m + d * m) (digits-of-limit W w)) ∙ omega (arith, halved W (suc (m + m)) m refl)

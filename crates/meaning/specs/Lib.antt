@@ -1,0 +1,4 @@
+-- The definitions of this crate: what a recipe comes to over unlimited whole numbers, and how many steps that takes.
+pub mod Meaning
+pub mod Count
+pub mod Reaching

@@ -1,0 +1,98 @@
+-- The loop of the run: what is left of the allowance leads from here to where the whole leads from the start, and so where the loop ends it shows what the
+-- whole shows.
+-- Assumes nothing.
+use mathlib.Core.Path.{_≡_, ap, ap₂, sym, _∙_, subst}
+use mathlib.Core.List.{List, []}
+use Prim.Native.Nat.{ℕ, suc, _+_, _-_, _≤_, _<_}
+use native.Mathlib.Numerals.{add-one}
+use native.Mathlib.Omega.{arith}
+use lib.ListN.{length, getD, drop, drop-of-length-le}
+use Rattle.checked.specs.declared.refusal.Refusal.{Refusal}
+use Rattle.checked.specs.Value.{Value}
+use Rattle.checked.specs.Paper.{given, numberOf}
+use Rattle.shape.specs.Items.{items}
+use Rattle.shape.specs.Shape.{Good}
+use Rattle.shape.proofs.Items.{items-at, length-items}
+use Rattle.steps.specs.declared.types.Phase.{Phase}
+use Rattle.steps.specs.declared.types.Phase.the-variants.{Between}
+use Rattle.steps.specs.Steps.{going, after, start, top}
+use Rattle.steps.proofs.Runs.{ended-stays}
+use Rattle.recipe.specs.declared.types.Advanced.{Advanced}
+use Rattle.recipe.specs.declared.types.Advanced.the-variants as advanced
+use Rattle.recipe.specs.declared.types.Driven.the-variants.{Stopped}
+use Rattle.recipe.specs.Run.{shown, ended, refusedAt, phaseNumbers}
+use Rattle.recipe.specs.Machine.{rest, valueOf, handOf, Shows, advancedOf, Ready, Advances, drivenOf}
+
+-- at the head of the loop: between items, with one still to do
+abbrev pub Drives : ℕ → List ℕ → List ℕ → ℕ → List ℕ → List ℕ → ℕ → ℕ → ℕ → Type 0
+Drives M ks ns a hand marks held d t =
+    (t ≤ a) × (d < length ks) × Shows held hand marks × Good M held (drop d (items ks ns))
+    × (rest M a (going t d (handOf held hand marks) Between (drop d (items ks ns))) ≡ after M a (start (items ks ns)))
+
+module _ (M : ℕ) (ks ns : List ℕ) (a : ℕ) (same : length ks ≡ length ns) where
+  pub begins-driving : (hand marks : List ℕ) → 0 < length ks → Shows 0 hand marks → Good M 0 (items ks ns) → Drives M ks ns a hand marks 0 0 0
+  begins-driving hand marks h s g = let e : a - 0 ≡ a = omega arith in (omega arith, h, s, g, ap (λ k. after M k (start (items ks ns))) e)
+
+  -- the allowance is spent
+  stopped-shown : (hand marks : List ℕ) (held d t : ℕ) (p : Phase) → a ≤ t → d < length ks → Shows held hand marks →
+      rest M a (going t d (handOf held hand marks) p (drop d (items ks ns))) ≡ after M a (start (items ks ns)) →
+      drivenOf hand marks (Stopped (record { held = held; done = d; phase = p }) t) ≡ shown (after M a (start (items ks ns)))
+  unfolding after
+  stopped-shown hand marks held d t p h m s l =
+      let e : a - t ≡ 0 = omega arith in
+      ap₂ (λ n m. record { answer = refusedAt 20 d; steps = t; done = d; marks = m; numbers = n; phase = phaseNumbers p }) (s .1) (s .2)
+      ∙ ap (λ xs. shown (going t d (handOf held hand marks) p xs)) (sym (items-at ks ns d m (omega arith)))
+      ∙ ap shown (ap (λ k. after M k (going t d (handOf held hand marks) p (drop d (items ks ns)))) (sym e) ∙ l)
+
+  module _ (hand marks : List ℕ) (held d t : ℕ) (drives : Drives M ks ns a hand marks held d t) where
+    pub between-shown : a ≤ t → drivenOf hand marks (Stopped (record { held = held; done = d; phase = Between }) t) ≡ shown (after M a (start (items ks ns)))
+    between-shown h = stopped-shown hand marks held d t Between h (drives .1) (drives .2) (drives .4)
+
+    -- ---- an item
+
+    module _ (hand' marks' : List ℕ) (r : Advanced) (advances : Advances M a (t + 1) (items ks ns) held d hand marks hand' marks' r) where
+      led : (s : Advanced) → r ≡ s → rest M a (advancedOf (t + 1) d (items ks ns) hand' marks' s) ≡ after M a (start (items ks ns))
+      led s e = ap (λ r. rest M a (advancedOf (t + 1) d (items ks ns) hand' marks' r)) (sym e) ∙ sym (advances .0 t (add-one t)) ∙ drives .4
+
+      ready : (s : Advanced) → r ≡ s → Ready M a (t + 1) d (items ks ns) hand' marks' s
+      ready s e = subst (Ready M a (t + 1) d (items ks ns) hand' marks') e (advances .1)
+
+      pub refused-shown : (c : Refusal) → r ≡ advanced.Refused c → ended (refusedAt (numberOf c) d) (t + 1) ≡ shown (after M a (start (items ks ns)))
+      refused-shown c e = ap shown (led (advanced.Refused c) e)
+
+      pub within-shown : (n : ℕ) (p : Phase) (s : ℕ) → r ≡ advanced.Within n p s →
+          drivenOf hand' marks' (Stopped (record { held = n; done = d; phase = p }) s) ≡ shown (after M a (start (items ks ns)))
+      within-shown n p s e =
+          let w = ready (advanced.Within n p s) e in
+          let h = w .1 in
+          stopped-shown hand' marks' n d s p (omega arith) (drives .1) (w .0) (led (advanced.Within n p s) e)
+
+      module _ (n s : ℕ) (e : r ≡ advanced.Done n s) where
+        pub more-taken : t < s
+        more-taken = let h = ready (advanced.Done n s) e .2 in omega arith
+
+        pub drives-on : (d + 1 ≡ length ks → ⊥) → Drives M ks ns a hand' marks' n (d + 1) s
+        drives-on m =
+            let w = ready (advanced.Done n s) e in
+            let l = drives .1 in
+            let i = sym (add-one d) in (
+              w .3,
+              omega arith,
+              w .0,
+              subst (λ d. Good M n (drop d (items ks ns))) i (w .1),
+              ap (λ d. rest M a (going s d (handOf n hand' marks') Between (drop d (items ks ns)))) (add-one d) ∙ led (advanced.Done n s) e,
+            )
+
+        module _ (last : d + 1 ≡ length ks) where
+          nothing-left : drop (suc d) (items ks ns) ≡ []
+          nothing-left = let h : length (items ks ns) ≤ suc d = omega (arith, length-items ks ns same) in drop-of-length-le (items ks ns) h
+
+          -- one value is on hand
+          one-left : n ≡ 1
+          one-left = subst (Good M n) nothing-left (ready (advanced.Done n s) e .1)
+
+          pub finished-shown : (v : Value) → v ≡ valueOf (getD hand' 0 0) (getD marks' 0 0) → ended (given v) s ≡ shown (after M a (start (items ks ns)))
+          finished-shown v q =
+              ap (λ v. ended (given v) s) q ∙ ap (λ n. ended (given (top (handOf n hand' marks'))) s) (sym one-left)
+              ∙ ap shown (sym (ended-stays M (a - s) (going s (suc d) (handOf n hand' marks') Between []) tt)
+              ∙ ap (λ xs. rest M a (going s (suc d) (handOf n hand' marks') Between xs)) (sym nothing-left) ∙ led (advanced.Done n s) e)

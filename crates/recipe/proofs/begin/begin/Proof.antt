@@ -1,0 +1,38 @@
+-- `begin::begin` meets its contract.
+-- Assumes nothing.
+use Rattle.recipe.proofs.Outcomes.{begins, begun-product, begun-sum}
+use Rattle.shape.proofs.Codes.{kind-product, kind-sum}
+use mathlib.Core.Path.{_∙_, ap}
+use Rattle.steps.specs.Steps.{value}
+use borrow.Author.Needs.{needs}
+use Rattle.recipe.proofs.begin.begin.Statement.{statement}
+use Rattle.recipe.proofs.begin.begin.Tie as tie
+
+add-checked-requires : tie.Need-add-checked-requires
+add-checked-requires c κs = search needs
+
+returns : tie.Need-returns
+returns c = let g = c .before .before .args in (begins (g .limit) (g .left) (g .right) (g .kind) kind-sum (c .before .if1 .taken) (ap value (c .add-checked .ensures) ∙ begun-sum (g .limit) (g .left) (g .right)), tt)
+
+mul-checked-requires : tie.Need-mul-checked-requires
+mul-checked-requires c κs = search needs
+
+returns-2 : tie.Need-returns-2
+returns-2 c = let g = c .before .before .before .args in (begins (g .limit) (g .left) (g .right) (g .kind) kind-product (c .before .if2 .taken) (ap value (c .mul-checked .ensures) ∙ begun-product (g .limit) (g .left) (g .right)), tt)
+
+begin-both-requires : tie.Need-begin-both-requires
+begin-both-requires c κs = search needs
+
+returns-3 : tie.Need-returns-3
+returns-3 c = c .begin-both .ensures
+
+pub begin-spec : {M : Type 1} → statement M
+begin-spec =
+    tie.close
+    (tie.spec
+    add-checked-requires
+    returns
+    mul-checked-requires
+    returns-2
+    begin-both-requires
+    returns-3)

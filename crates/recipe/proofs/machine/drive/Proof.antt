@@ -1,0 +1,132 @@
+-- `machine::drive` meets its contract.
+-- Assumes nothing.
+use native.Mathlib.Omega.{arith}
+use Prim.Native.Nat.{_-_}
+use Rattle.recipe.proofs.Driving.{Drives, begins-driving, between-shown, refused-shown, within-shown, more-taken, drives-on, finished-shown}
+use borrow.Author.Needs.{needs}
+use Rattle.recipe.proofs.machine.drive.Statement.{statement}
+use Rattle.recipe.proofs.machine.drive.Tie as tie
+
+abbrev Inv-loop : tie.InvT-loop
+Inv-loop limit kinds numbers allowance hand₀ marks₀ n held₀ done₀ taken₀ hand marks held done taken = Drives limit kinds numbers allowance hand marks held done taken
+
+abbrev μ-loop : tie.MeasureT-loop
+μ-loop limit kinds numbers allowance hand₀ marks₀ n held₀ done₀ taken₀ hand marks held done taken = allowance - taken
+
+loop-holds : tie.Need-loop-holds Inv-loop μ-loop
+loop-holds c =
+    let s = c .before .before in
+    let g = s .args in
+    begins-driving (g .limit) (g .kinds .now) (g .numbers .now) (g .allowance) (s .pre .0 .0) (g .hand .now) (g .marks .now) (s .pre .0 .2) (s .pre .1 .0) (s .pre .1 .1)
+
+add-advance : tie.Need-add-advance Inv-loop μ-loop
+add-advance c = search needs
+
+advance-requires : tie.Need-advance-requires Inv-loop μ-loop
+advance-requires c κs =
+    let s = c .before .before .before .before .before .before in
+    let l = c .before .before .before .loop in
+    let h = c .before .before .loop-test .taken in
+    ((s .pre .0 .0, l .inv .1, omega arith), (l .inv .2, l .inv .3))
+
+enum-known-now-held : tie.Need-enum-known-now-held Inv-loop μ-loop
+enum-known-now-held c = search needs
+
+add-done : tie.Need-add-done Inv-loop μ-loop
+add-done c = search needs
+
+element-copy-out-value-of : tie.Need-element-copy-out-value-of Inv-loop μ-loop
+element-copy-out-value-of c = search needs
+
+element-copy-out-value-of-2 : tie.Need-element-copy-out-value-of-2 Inv-loop μ-loop
+element-copy-out-value-of-2 c = search needs
+
+value-of-requires : tie.Need-value-of-requires Inv-loop μ-loop
+value-of-requires c κs = search needs
+
+returns : tie.Need-returns Inv-loop μ-loop
+returns c =
+    let s = c .before .before .before .before .before .before .before .before .before .before .before .before .before .before in
+    let g = s .args in
+    let l = c .before .before .before .before .before .before .before .before .before .before .before .loop in
+    let r = c .before .before .before .before .before .before .before .advance in
+    let v = c .before .before .before .before .before .now-held .given in
+    finished-shown (g .limit) (g .kinds .now) (g .numbers .now) (g .allowance) (s .pre .0 .0) (l .hand) (l .marks) (l .held) (l .done) (l .taken) (l .inv) (r .last .1 .1 .1 .0) (r .last .1 .1 .1 .1 .0) (r .result) (r .ensures) (v .0 .0) (v .0 .1 .0) (v .1) (c .before .before .before .if1 .taken) (c .value-of .result) (c .value-of .ensures)
+
+loop-less : tie.Need-loop-less Inv-loop μ-loop
+loop-less c =
+    let s = c .before .before .before .before .before .before .before .before .before .before .before in
+    let g = s .args in
+    let l = c .before .before .before .before .before .before .before .before .loop in
+    let r = c .before .before .before .before .advance in
+    let v = c .before .before .now-held .given in
+    let h = c .before .before .before .before .before .before .before .loop-test .taken in
+    let m = more-taken (g .limit) (g .kinds .now) (g .numbers .now) (g .allowance) (s .pre .0 .0) (l .hand) (l .marks) (l .held) (l .done) (l .taken) (l .inv) (r .last .1 .1 .1 .0) (r .last .1 .1 .1 .1 .0) (r .result) (r .ensures) (v .0 .0) (v .0 .1 .0) (v .1) in
+    omega arith
+
+loop-again : tie.Need-loop-again Inv-loop μ-loop
+loop-again c =
+    let s = c .before .before .before .before .before .before .before .before .before .before .before in
+    let g = s .args in
+    let l = c .before .before .before .before .before .before .before .before .loop in
+    let r = c .before .before .before .before .advance in
+    let v = c .before .before .now-held .given in
+    drives-on (g .limit) (g .kinds .now) (g .numbers .now) (g .allowance) (s .pre .0 .0) (l .hand) (l .marks) (l .held) (l .done) (l .taken) (l .inv) (r .last .1 .1 .1 .0) (r .last .1 .1 .1 .1 .0) (r .result) (r .ensures) (v .0 .0) (v .0 .1 .0) (v .1) (c .if1 .left)
+
+enum-known-under : tie.Need-enum-known-under Inv-loop μ-loop
+enum-known-under c = search needs
+
+returns-2 : tie.Need-returns-2 Inv-loop μ-loop
+returns-2 c =
+    let s = c .before .before .before .before .before .before .before .before .before .before in
+    let g = s .args in
+    let l = c .before .before .before .before .before .before .before .loop in
+    let r = c .before .before .before .advance in
+    let v = c .before .under .given in
+    within-shown (g .limit) (g .kinds .now) (g .numbers .now) (g .allowance) (s .pre .0 .0) (l .hand) (l .marks) (l .held) (l .done) (l .taken) (l .inv) (r .last .1 .1 .1 .0) (r .last .1 .1 .1 .1 .0) (r .result) (r .ensures) (v .0 .0) (v .0 .1 .0) (v .0 .1 .1 .0) (v .1)
+
+enum-known-refusal : tie.Need-enum-known-refusal Inv-loop μ-loop
+enum-known-refusal c = search needs
+
+add-t31 : tie.Need-add-t31 Inv-loop μ-loop
+add-t31 c = search needs
+
+returns-3 : tie.Need-returns-3 Inv-loop μ-loop
+returns-3 c =
+    let s = c .before .before .before .before .before .before .before .before .before .before in
+    let g = s .args in
+    let l = c .before .before .before .before .before .before .before .loop in
+    let r = c .before .before .before .advance in
+    let v = c .before .refusal .given in
+    refused-shown (g .limit) (g .kinds .now) (g .numbers .now) (g .allowance) (s .pre .0 .0) (l .hand) (l .marks) (l .held) (l .done) (l .taken) (l .inv) (r .last .1 .1 .1 .0) (r .last .1 .1 .1 .1 .0) (r .result) (r .ensures) (v .0 .0) (v .1)
+
+returns-4 : tie.Need-returns-4 Inv-loop μ-loop
+returns-4 c =
+    let s = c .before .before .before .before in
+    let g = s .args in
+    let l = c .before .loop in
+    between-shown (g .limit) (g .kinds .now) (g .numbers .now) (g .allowance) (s .pre .0 .0) (l .hand) (l .marks) (l .held) (l .done) (l .taken) (l .inv) (c .loop-test .left)
+
+pub drive-spec : {M : Type 1} → statement M
+drive-spec =
+    tie.close
+    (tie.spec
+    Inv-loop
+    μ-loop
+    loop-holds
+    add-advance
+    advance-requires
+    enum-known-now-held
+    add-done
+    element-copy-out-value-of
+    element-copy-out-value-of-2
+    value-of-requires
+    returns
+    loop-less
+    loop-again
+    enum-known-under
+    returns-2
+    enum-known-refusal
+    add-t31
+    returns-3
+    returns-4)

@@ -1,0 +1,3 @@
+-- The definitions of this crate: what a run shows, and how the code stands for it.
+pub mod Run
+pub mod Machine

@@ -1,0 +1,10 @@
+-- The laws on a run by single steps, each file standing on those above it.
+pub mod Runs
+pub mod Outcomes
+pub mod Powers
+pub mod Logarithms
+pub mod Work
+pub mod Operations
+pub mod Items
+pub mod Agreement
+pub mod Stops
