@@ -10,7 +10,7 @@ use Rattle.checked.specs.declared.types.Checked64.the-variants.{Fits}
 use Rattle.checked.specs.Value.{Value}
 use Rattle.shape.specs.Items.{Item, kindOf, itemOf, items}
 use Rattle.shape.specs.Shape.{faultOf, heldAfter, Good}
-use Rattle.shape.proofs.Codes.{kind-literal, kind-operation, kind-unknown}
+use Rattle.shape.proofs.Codes.{kind-at, kind-operation, kind-unknown}
 use Rattle.shape.proofs.Items.{items-at}
 use Rattle.shape.proofs.Shapes.{literal-good, operation-good, unknown-not-good}
 use Rattle.steps.specs.declared.types.Phase.the-variants.{Between}
@@ -40,7 +40,7 @@ module _ (M : ℕ) (ks ns : List ℕ) (d : ℕ) (same : length ks ≡ length ns)
   pub good-literal : (held : ℕ) → getD ks d 0 ≡ 0 → Good M held (drop d (items ks ns)) → (held < 32) × Good M (suc held) (drop (suc d) (items ks ns))
   unfolding later
   good-literal held e g =
-      let k = ap kindOf e ∙ kind-literal in
+      let k = ap kindOf e ∙ kind-at 0 in
       let w = subst (λ κ. (faultOf M held κ (getD ns d 0) ≡ 0) × Good M (heldAfter held κ) later) k (good-item held g) in
       (literal-good M held (getD ns d 0) (w .0) .1, w .1)
 
@@ -74,7 +74,7 @@ module _ (M : ℕ) (ks ns : List ℕ) (d : ℕ) (same : length ks ≡ length ns)
         led : (t : ℕ) → from ≡ suc t → rest M a (steps.going t d (handOf held hand marks) Between (drop d (items ks ns))) ≡ rest M a (advancedOf from d (items ks ns) hand' marks' r)
         led t n =
             let o = steps.value (Fits (getD ns d 0)) in
-            begins t (handOf held hand marks) o n (ap (λ κ. steps.beginning M t d (handOf held hand marks) κ item later) (ap kindOf e ∙ kind-literal))
+            begins t (handOf held hand marks) o n (ap (λ κ. steps.beginning M t d (handOf held hand marks) κ item later) (ap kindOf e ∙ kind-at 0))
             ∙ ap (rest M a) (landed-placed t from d (handOf held hand marks) item later o n ∙ sym (lands from d (items ks ns) item next))
 
     pub operation-advances : (0 < getD ks d 0) → (getD ks d 0 < 7) → Good M (held - 1) (drop (suc d) (items ks ns)) → Operates M a from (kindOf (getD ks d 0)) held hand marks hand' marks' r →

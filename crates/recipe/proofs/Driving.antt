@@ -36,7 +36,7 @@ module _ (M : ℕ) (ks ns : List ℕ) (a : ℕ) (same : length ks ≡ length ns)
   -- the allowance is spent
   stopped-shown : (hand marks : List ℕ) (held d t : ℕ) (p : Phase) → a ≤ t → d < length ks → Shows held hand marks →
       rest M a (going t d (handOf held hand marks) p (drop d (items ks ns))) ≡ after M a (start (items ks ns)) →
-      drivenOf hand marks (Stopped (record { held = held; done = d; phase = p }) t) ≡ shown (after M a (start (items ks ns)))
+      drivenOf hand marks (Stopped (record { done = d; phase = p }) t) ≡ shown (after M a (start (items ks ns)))
   unfolding after
   stopped-shown hand marks held d t p h m s l =
       let e : a - t ≡ 0 = omega arith in
@@ -45,7 +45,7 @@ module _ (M : ℕ) (ks ns : List ℕ) (a : ℕ) (same : length ks ≡ length ns)
       ∙ ap shown (ap (λ k. after M k (going t d (handOf held hand marks) p (drop d (items ks ns)))) (sym e) ∙ l)
 
   module _ (hand marks : List ℕ) (held d t : ℕ) (drives : Drives M ks ns a hand marks held d t) where
-    pub between-shown : a ≤ t → drivenOf hand marks (Stopped (record { held = held; done = d; phase = Between }) t) ≡ shown (after M a (start (items ks ns)))
+    pub between-shown : a ≤ t → drivenOf hand marks (Stopped (record { done = d; phase = Between }) t) ≡ shown (after M a (start (items ks ns)))
     between-shown h = stopped-shown hand marks held d t Between h (drives .1) (drives .2) (drives .4)
 
     -- ---- an item
@@ -61,7 +61,7 @@ module _ (M : ℕ) (ks ns : List ℕ) (a : ℕ) (same : length ks ≡ length ns)
       refused-shown c e = ap shown (led (advanced.Refused c) e)
 
       pub within-shown : (n : ℕ) (p : Phase) (s : ℕ) → r ≡ advanced.Within n p s →
-          drivenOf hand' marks' (Stopped (record { held = n; done = d; phase = p }) s) ≡ shown (after M a (start (items ks ns)))
+          drivenOf hand' marks' (Stopped (record { done = d; phase = p }) s) ≡ shown (after M a (start (items ks ns)))
       within-shown n p s e =
           let w = ready (advanced.Within n p s) e in
           let h = w .1 in

@@ -123,10 +123,9 @@ pub(crate) fn drive(
                     return Driven::Finished(value_of(hand[0], marks[0]), taken);
                 }
             }
-            Advanced::Within(under, phase, all) => {
+            Advanced::Within(_, phase, all) => {
                 return Driven::Stopped(
                     State {
-                        held: under,
                         done: done,
                         phase: phase,
                     },
@@ -140,7 +139,6 @@ pub(crate) fn drive(
     }
     Driven::Stopped(
         State {
-            held: held,
             done: done,
             phase: Phase::Between,
         },

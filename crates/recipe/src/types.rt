@@ -27,9 +27,8 @@ pub enum Outcome {
     Refused(Refusal),
 }
 
-// A run's state beside its hand: how many values are on hand, how many items are wholly done, and the phase.
+// A run's state beside its hand: how many items are wholly done, and the phase.
 pub struct State {
-    pub held: usize,
     pub done: usize,
     pub phase: Phase,
 }

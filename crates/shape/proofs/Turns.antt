@@ -9,7 +9,7 @@ use native.Mathlib.Omega.{arith}
 use lib.ListN.{length, getD, drop, drop-of-length-le}
 use Rattle.shape.specs.Items.{Operation, Kind, literal, operation, unknown, kindOf, itemOf, items}
 use Rattle.shape.specs.Shape.{Verdict, refused, faultOf, heldAfter, shapeFrom}
-use Rattle.shape.proofs.Codes.{kind-literal, kind-operation, kind-unknown}
+use Rattle.shape.proofs.Codes.{kind-at, kind-operation, kind-unknown}
 use Rattle.shape.proofs.Items.{length-items, items-at}
 use Rattle.shape.proofs.Shapes.{item-passes, item-refused, literal-above, literal-beyond-hand, literal-passes, operation-numbered, operation-lacking, operation-passes}
 
@@ -42,7 +42,7 @@ module _ {M i held : ℕ} {ks ns : List ℕ} {v : Verdict} (t : Turn M i held ks
   -- ---- a literal
 
   is-literal : getD ks i 0 ≡ 0 → kindOf (getD ks i 0) ≡ literal
-  is-literal z = ap kindOf z ∙ kind-literal
+  is-literal z = ap kindOf z ∙ kind-at 0
 
   pub literal-above-refused : getD ks i 0 ≡ 0 → M < getD ns i 0 → refused 9 i ≡ v
   literal-above-refused z h = refuses literal 9 (is-literal z) (literal-above M held (getD ns i 0) h) (λ z. omega arith)

@@ -1,7 +1,7 @@
 -- `begin::begin` meets its contract.
 -- Assumes nothing.
 use Rattle.recipe.proofs.Outcomes.{begins, begun-product, begun-sum}
-use Rattle.shape.proofs.Codes.{kind-product, kind-sum}
+use Rattle.shape.proofs.Codes.{kind-at}
 use mathlib.Core.Path.{_∙_, ap}
 use Rattle.steps.specs.Steps.{value}
 use borrow.Author.Needs.{needs}
@@ -12,13 +12,13 @@ add-checked-requires : tie.Need-add-checked-requires
 add-checked-requires c κs = search needs
 
 returns : tie.Need-returns
-returns c = let g = c .before .before .args in (begins (g .limit) (g .left) (g .right) (g .kind) kind-sum (c .before .if1 .taken) (ap value (c .add-checked .ensures) ∙ begun-sum (g .limit) (g .left) (g .right)), tt)
+returns c = let g = c .before .before .args in (begins (g .limit) (g .left) (g .right) (g .kind) (kind-at 1) (c .before .if1 .taken) (ap value (c .add-checked .ensures) ∙ begun-sum (g .limit) (g .left) (g .right)), tt)
 
 mul-checked-requires : tie.Need-mul-checked-requires
 mul-checked-requires c κs = search needs
 
 returns-2 : tie.Need-returns-2
-returns-2 c = let g = c .before .before .before .args in (begins (g .limit) (g .left) (g .right) (g .kind) kind-product (c .before .if2 .taken) (ap value (c .mul-checked .ensures) ∙ begun-product (g .limit) (g .left) (g .right)), tt)
+returns-2 c = let g = c .before .before .before .args in (begins (g .limit) (g .left) (g .right) (g .kind) (kind-at 2) (c .before .if2 .taken) (ap value (c .mul-checked .ensures) ∙ begun-product (g .limit) (g .left) (g .right)), tt)
 
 begin-both-requires : tie.Need-begin-both-requires
 begin-both-requires c κs = search needs

@@ -1,7 +1,7 @@
 -- `begin::begin_fitting` meets its contract.
 -- Assumes nothing.
 use Rattle.recipe.proofs.Outcomes.{begins}
-use Rattle.shape.proofs.Codes.{kind-logarithm, kind-power, kind-quotient, kind-remainder}
+use Rattle.shape.proofs.Codes.{kind-at}
 use native.Mathlib.Omega.{arith}
 use Rattle.checked.specs.declared.types.Checked64.the-variants.{Fits}
 use borrow.Author.Needs.{needs}
@@ -21,16 +21,16 @@ begin-logarithm-requires : tie.Need-begin-logarithm-requires
 begin-logarithm-requires c κs = search needs
 
 returns : tie.Need-returns
-returns c = let g = c .before .before .args in (begins (g .limit) (Fits (g .l)) (Fits (g .r)) (g .kind) kind-quotient (c .before .match .keys1) (c .begin-quotient .ensures .0), c .begin-quotient .ensures .1)
+returns c = let g = c .before .before .args in (begins (g .limit) (Fits (g .l)) (Fits (g .r)) (g .kind) (kind-at 3) (c .before .match .keys1) (c .begin-quotient .ensures .0), c .begin-quotient .ensures .1)
 
 returns-2 : tie.Need-returns-2
-returns-2 c = let g = c .before .before .args in (begins (g .limit) (Fits (g .l)) (Fits (g .r)) (g .kind) kind-remainder (c .before .match .keys2) (c .begin-remainder .ensures .0), c .begin-remainder .ensures .1)
+returns-2 c = let g = c .before .before .args in (begins (g .limit) (Fits (g .l)) (Fits (g .r)) (g .kind) (kind-at 4) (c .before .match .keys2) (c .begin-remainder .ensures .0), c .begin-remainder .ensures .1)
 
 returns-3 : tie.Need-returns-3
-returns-3 c = let g = c .before .before .args in (begins (g .limit) (Fits (g .l)) (Fits (g .r)) (g .kind) kind-power (c .before .match .keys3) (c .begin-power .ensures .0), c .begin-power .ensures .1)
+returns-3 c = let g = c .before .before .args in (begins (g .limit) (Fits (g .l)) (Fits (g .r)) (g .kind) (kind-at 5) (c .before .match .keys3) (c .begin-power .ensures .0), c .begin-power .ensures .1)
 
 returns-4 : tie.Need-returns-4
-returns-4 c = let g = c .before .before .args in (begins (g .limit) (Fits (g .l)) (Fits (g .r)) (g .kind) kind-logarithm (omega arith) (c .begin-logarithm .ensures .0), c .begin-logarithm .ensures .1)
+returns-4 c = let g = c .before .before .args in (begins (g .limit) (Fits (g .l)) (Fits (g .r)) (g .kind) (kind-at 6) (omega arith) (c .begin-logarithm .ensures .0), c .begin-logarithm .ensures .1)
 
 pub begin-fitting-spec : {M : Type 1} → statement M
 begin-fitting-spec =

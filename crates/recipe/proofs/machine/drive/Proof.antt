@@ -73,8 +73,8 @@ loop-again c =
     let v = c .before .before .now-held .given in
     drives-on (g .limit) (g .kinds .now) (g .numbers .now) (g .allowance) (s .pre .0 .0) (l .hand) (l .marks) (l .held) (l .done) (l .taken) (l .inv) (r .last .1 .1 .1 .0) (r .last .1 .1 .1 .1 .0) (r .result) (r .ensures) (v .0 .0) (v .0 .1 .0) (v .1) (c .if1 .left)
 
-enum-known-under : tie.Need-enum-known-under Inv-loop μ-loop
-enum-known-under c = search needs
+enum-known-phase : tie.Need-enum-known-phase Inv-loop μ-loop
+enum-known-phase c = search needs
 
 returns-2 : tie.Need-returns-2 Inv-loop μ-loop
 returns-2 c =
@@ -82,14 +82,14 @@ returns-2 c =
     let g = s .args in
     let l = c .before .before .before .before .before .before .before .loop in
     let r = c .before .before .before .advance in
-    let v = c .before .under .given in
+    let v = c .before .phase .given in
     within-shown (g .limit) (g .kinds .now) (g .numbers .now) (g .allowance) (s .pre .0 .0) (l .hand) (l .marks) (l .held) (l .done) (l .taken) (l .inv) (r .last .1 .1 .1 .0) (r .last .1 .1 .1 .1 .0) (r .result) (r .ensures) (v .0 .0) (v .0 .1 .0) (v .0 .1 .1 .0) (v .1)
 
 enum-known-refusal : tie.Need-enum-known-refusal Inv-loop μ-loop
 enum-known-refusal c = search needs
 
-add-t31 : tie.Need-add-t31 Inv-loop μ-loop
-add-t31 c = search needs
+add-t30 : tie.Need-add-t30 Inv-loop μ-loop
+add-t30 c = search needs
 
 returns-3 : tie.Need-returns-3 Inv-loop μ-loop
 returns-3 c =
@@ -124,9 +124,9 @@ drive-spec =
     returns
     loop-less
     loop-again
-    enum-known-under
+    enum-known-phase
     returns-2
     enum-known-refusal
-    add-t31
+    add-t30
     returns-3
     returns-4)
