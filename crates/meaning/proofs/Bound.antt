@@ -14,10 +14,10 @@ use Rattle.checked.specs.Value.{limitOf}
 use Rattle.checked.proofs.Logarithms.{log-below-width}
 use Rattle.shape.specs.Items.{Operation, sum, product, quotient, remainder, power, logarithm, Kind, literal, operation, unknown, Item}
 use Rattle.shape.specs.Shape.{Good}
-use Rattle.meaning.specs.Meaning.{refusal, refusalOn, top, under, handOn}
-use Rattle.meaning.specs.Count.{digits, further, furtherOn, countFrom, count}
+use Rattle.meaning.specs.Meaning.{refusalAt, refusalOn, top, under, handOn}
+use Rattle.meaning.specs.Count.{digits, furtherAt, furtherOn, countFrom, count}
 use Rattle.meaning.proofs.Digits.{digits-at-most}
-use Rattle.meaning.proofs.Operations.{operationsOf, operations, later-test, length-odd}
+use Rattle.meaning.proofs.Operations.{operationsOf, operations, length-odd}
 
 -- ---- an operation
 
@@ -27,9 +27,15 @@ counted-at-most true true n W h = h refl
 counted-at-most true false n W h = zero-le
 counted-at-most false u n W h = zero-le
 
+-- where a test before others and a test after it give no refusal, the later one fails
+later-test : (t u : Bool) (a b : ℕ) → cond t (cond u (suc a) 0) (suc b) ≡ 0 → u ≡ false
+later-test true true a b e = absurd (omega arith)
+later-test true false a b e = refl
+later-test false u a b e = absurd (omega arith)
+
 pub further-at-most
     : (W : ℕ) (o : Operation) (l r : ℕ) → 0 < W →
-    refusal o (leb l (limitOf W)) (leb r (limitOf W)) l r ≡ 0 → further o (leb l (limitOf W)) (leb r (limitOf W)) l r ≤ W
+    refusalAt (limitOf W) o l r ≡ 0 → furtherAt (limitOf W) o l r ≤ W
 further-at-most W sum l r w e = zero-le
 further-at-most W product l r w e = zero-le
 further-at-most W quotient l r w e = zero-le

@@ -6,13 +6,12 @@ use mathlib.Core.Path.{_≡_, subst}
 use mathlib.Core.List.{List}
 use Prim.Native.Nat.{ℕ, suc, _+_, _-_, _*_, _/_, _%_, _^_, _≤_, _<_}
 use native.Mathlib.Omega.{arith}
-use lib.Dec.{leb}
 use lib.ListN.{length}
 use Rattle.checked.specs.Value.{limitOf}
 use Rattle.shape.specs.Items.{Operation, Item}
 use Rattle.shape.specs.Shape.{Good}
-use Rattle.meaning.specs.Meaning.{failed, refusal, meaning}
-use Rattle.meaning.specs.Count.{digits, further, count}
+use Rattle.meaning.specs.Meaning.{failed, refusalAt, meaning}
+use Rattle.meaning.specs.Count.{digits, furtherAt, count}
 use Rattle.meaning.specs.Reaching.{reachingKinds, reachingNumbers, Reaches}
 pub use Rattle.meaning.proofs.Single.{sum-and-product, quotient-and-remainder, powers, logarithms}
 pub use Rattle.meaning.proofs.Single.{sum-and-product-never-refused, above-refused, divisor-zero-refused, divisor-not-refused}
@@ -46,7 +45,7 @@ half-has-one-less = written.digits-of-half
 -- an operation of W bits takes at most W further steps
 pub further-at-most
     : (W : ℕ) (o : Operation) (l r : ℕ) → 0 < W →
-    refusal o (leb l (limitOf W)) (leb r (limitOf W)) l r ≡ 0 → further o (leb l (limitOf W)) (leb r (limitOf W)) l r ≤ W
+    refusalAt (limitOf W) o l r ≡ 0 → furtherAt (limitOf W) o l r ≤ W
 further-at-most = bound.further-at-most
 
 -- a well-formed recipe of n items takes at most n + W (n - 1) / 2 steps

@@ -11,22 +11,15 @@ use borrow.Author.Tests.{le-leb, ltb-false}
 use Rattle.whole.specs.logarithm.{log-of}
 use Rattle.checked.specs.declared.types.Both.the-variants as both
 use Rattle.checked.specs.declared.types.Checked64.the-variants.{Fits, Overflowed}
-use Rattle.checked.specs.Value.{Value, checkedOf, sumOf, productOf, bothOf}
+use Rattle.checked.specs.Value.{checkedOf, sumOf, productOf, bothOf}
 use Rattle.checked.specs.Paper.{Paper, given, refused, onBoth, dividedBy, leftBy, powersOf, logOf, quotientOf, remainderOf, powerOf, logarithmOf}
 use Rattle.checked.proofs.Limit.{fits, over}
 use Rattle.checked.proofs.Logarithms.{log-at-most}
 use Rattle.checked.proofs.Standing.{sum-of-values, product-of-values}
 use Rattle.shape.specs.Items.{Operation, sum, product, quotient, remainder, power, logarithm}
-use Rattle.meaning.specs.Meaning.{worth}
-use Rattle.meaning.proofs.Single.{refusalAt, above-refused}
-
--- a refusal's number, or a value where it is 0
-abbrev pub answer : ℕ → Value → Paper
-answer code v = cond (eqb code 0) (given v) (refused code)
-
--- what an operation on l and r answers at the limit M, in numbers
-abbrev pub alone : ℕ → Operation → ℕ → ℕ → Paper
-alone M o l r = answer (refusalAt M o l r) (checkedOf M (worth o l r))
+use Rattle.meaning.specs.Meaning.{worth, refusalAt}
+use Rattle.meaning.specs.Alone.{answer, alone}
+use Rattle.meaning.proofs.Single.{above-refused}
 
 module _ (M l r : ℕ) where
   -- where both fit, the operation on numbers answers

@@ -9,8 +9,8 @@ use native.Mathlib.Omega.{arith}
 use lib.Dec.{eqb, leb, ltb}
 use borrow.Author.Tests.{le-leb, lt-leb, eq-eqb, ne-eqb, lt-ltb, le-ltb}
 use Rattle.whole.proofs.Naturals.{log-of-zero, log-of-floor}
-use Rattle.shape.specs.Items.{Operation, sum, product, quotient, remainder, power, logarithm}
-use Rattle.meaning.specs.Meaning.{worth, refusal}
+use Rattle.shape.specs.Items.{sum, product, quotient, remainder, power, logarithm}
+use Rattle.meaning.specs.Meaning.{worth, refusalAt}
 
 -- ---- worth
 
@@ -30,10 +30,6 @@ pub logarithms : (l r : ℕ) → 1 < l → (worth logarithm l 0 ≡ 0) × (0 < r
 logarithms l r h = (log-of-zero l, log-of-floor l r h)
 
 -- ---- refusal
-
--- with M the limit, of l and r
-abbrev pub refusalAt : ℕ → Operation → ℕ → ℕ → ℕ
-refusalAt M o l r = refusal o (leb l M) (leb r M) l r
 
 pub sum-and-product-never-refused : (M l r : ℕ) → (refusalAt M sum l r ≡ 0) × (refusalAt M product l r ≡ 0)
 sum-and-product-never-refused M l r = (refl, refl)

@@ -22,9 +22,13 @@ further remainder lfits rfits l r = 0
 further power lfits rfits l r = cond (lfits && rfits) (digits r) 0
 further logarithm lfits rfits l r = cond (lfits && rfits) (log-of l r) 0
 
+-- at the limit M
+abbrev pub furtherAt : ℕ → Operation → ℕ → ℕ → ℕ
+furtherAt M o l r = further o (leb l M) (leb r M) l r
+
 abbrev pub furtherOn : ℕ → List ℕ → Kind → ℕ
 furtherOn M hand literal = 0
-furtherOn M hand (operation o) = let r = top hand in let l = top (under hand) in further o (leb l M) (leb r M) l r
+furtherOn M hand (operation o) = furtherAt M o (top (under hand)) (top hand)
 furtherOn M hand unknown = 0
 
 -- from here on, with these numbers on hand

@@ -1,4 +1,5 @@
 -- The definitions of this crate: what a recipe comes to over unlimited whole numbers, and how many steps that takes.
 pub mod Meaning
 pub mod Count
+pub mod Alone
 pub mod Reaching

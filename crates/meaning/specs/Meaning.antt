@@ -26,6 +26,10 @@ refusal remainder lfits rfits l r = cond (lfits && rfits) (cond (eqb r 0) 1 0) 3
 refusal power lfits rfits l r = cond (lfits && rfits) 0 3
 refusal logarithm lfits rfits l r = cond (lfits && rfits) (cond (ltb l 2) 2 0) 3
 
+-- at the limit M
+abbrev pub refusalAt : ℕ → Operation → ℕ → ℕ → ℕ
+refusalAt M o l r = refusal o (leb l M) (leb r M) l r
+
 -- ---- an item
 
 -- the two top values of a hand, and what is under them; a well-formed recipe has them whenever they are asked for
@@ -40,7 +44,7 @@ under (r ∷ hand) = hand
 -- the refusal's number of an item, or 0
 abbrev pub refusalOn : ℕ → List ℕ → Kind → ℕ
 refusalOn M hand literal = 0
-refusalOn M hand (operation o) = let r = top hand in let l = top (under hand) in refusal o (leb l M) (leb r M) l r
+refusalOn M hand (operation o) = refusalAt M o (top (under hand)) (top hand)
 refusalOn M hand unknown = 0
 
 -- the hand after it

@@ -1,4 +1,5 @@
--- How the code's parts stand for the parts of a run: its outcomes, its hand of numbers and marks, its state.
+-- How the code's parts stand for the parts of a run: its outcomes, its hand of numbers and marks, its state. Only contracts of private functions speak of
+-- this; what a caller is promised is in `Run`.
 -- Assumes nothing.
 use mathlib.Core.Path.{_≡_}
 use mathlib.Core.Bool.{cond}

@@ -16,8 +16,8 @@ use Rattle.checked.proofs.Powers.{power-begins}
 use Rattle.checked.proofs.Logarithms.{log-at-most}
 use Rattle.checked.proofs.Standing.{sum-of-values, product-of-values}
 use Rattle.shape.specs.Items.{Operation, sum, product, quotient, remainder, power, logarithm}
-use Rattle.meaning.specs.Meaning.{worth, refusal}
-use Rattle.meaning.specs.Count.{further}
+use Rattle.meaning.specs.Meaning.{worth, refusal, refusalAt}
+use Rattle.meaning.specs.Count.{further, furtherAt}
 use Rattle.steps.specs.Steps.{Outcome, fails, fitting, entered, begun}
 use Rattle.steps.proofs.Outcomes.{Keeps}
 use Rattle.steps.proofs.Powers.{powering-keeps}
@@ -53,7 +53,7 @@ heeded o false b l r m n p q = unheard o false b l r m n refl
 
 module _ (M : ℕ) (o : Operation) (l r : ℕ) where
   same-refusal
-      : refusal o (fitting (checkedOf M l)) (fitting (checkedOf M r)) (least M (checkedOf M l)) (least M (checkedOf M r)) ≡ refusal o (leb l M) (leb r M) l r
+      : refusal o (fitting (checkedOf M l)) (fitting (checkedOf M r)) (least M (checkedOf M l)) (least M (checkedOf M r)) ≡ refusalAt M o l r
   same-refusal =
       ap₂ (λ a b. refusal o a b (least M (checkedOf M l)) (least M (checkedOf M r))) (fitting-of M l) (fitting-of M r)
       ∙ heeded o (leb l M) (leb r M) (least M (checkedOf M l)) (least M (checkedOf M r)) l r (least-of M l) (least-of M r)
@@ -61,15 +61,15 @@ module _ (M : ℕ) (o : Operation) (l r : ℕ) where
   on-refusal : ℕ → Outcome
   on-refusal n = elim (eqb n 0) [ true ↦ entered M o (checkedOf M l) (checkedOf M r) | false ↦ fails n ]
 
-  begun-well : refusal o (leb l M) (leb r M) l r ≡ 0 → begun M o (checkedOf M l) (checkedOf M r) ≡ entered M o (checkedOf M l) (checkedOf M r)
+  begun-well : refusalAt M o l r ≡ 0 → begun M o (checkedOf M l) (checkedOf M r) ≡ entered M o (checkedOf M l) (checkedOf M r)
   unfolding begun on-refusal
   begun-well e = ap on-refusal (same-refusal ∙ e)
 
-  pub begun-ill : eqb (refusal o (leb l M) (leb r M) l r) 0 ≡ false → begun M o (checkedOf M l) (checkedOf M r) ≡ fails (refusal o (leb l M) (leb r M) l r)
+  pub begun-ill : eqb (refusalAt M o l r) 0 ≡ false → begun M o (checkedOf M l) (checkedOf M r) ≡ fails (refusalAt M o l r)
   unfolding begun on-refusal
   begun-ill e =
       ap on-refusal same-refusal
-      ∙ ap (λ b. elim b [ true ↦ entered M o (checkedOf M l) (checkedOf M r) | false ↦ fails (refusal o (leb l M) (leb r M) l r) ]) e
+      ∙ ap (λ b. elim b [ true ↦ entered M o (checkedOf M l) (checkedOf M r) | false ↦ fails (refusalAt M o l r) ]) e
 
 -- ---- the same value
 
@@ -115,8 +115,8 @@ module _ (M l r : ℕ) where
 
   -- begun and not refused, it keeps to what l and r come to, with its further steps to go
   pub operation-keeps
-      : (o : Operation) → eqb (refusal o (leb l M) (leb r M) l r) 0 ≡ true →
-      Keeps M (worth o l r) (further o (leb l M) (leb r M) l r) (begun M o (checkedOf M l) (checkedOf M r))
+      : (o : Operation) → eqb (refusalAt M o l r) 0 ≡ true →
+      Keeps M (worth o l r) (furtherAt M o l r) (begun M o (checkedOf M l) (checkedOf M r))
   operation-keeps o q =
-      let e = eqb-true (refusal o (leb l M) (leb r M) l r) 0 q in
-      subst (Keeps M (worth o l r) (further o (leb l M) (leb r M) l r)) (sym (begun-well M o l r e)) (worked o e)
+      let e = eqb-true (refusalAt M o l r) 0 q in
+      subst (Keeps M (worth o l r) (furtherAt M o l r)) (sym (begun-well M o l r e)) (worked o e)
