@@ -1,0 +1,201 @@
+-- What the scan of a field promises, one named theorem for each promise. The function's contract says that its answer is the one of `scanOf`; `Unique` says
+-- that no other answer is.
+-- Assumes nothing.
+use mathlib.Core.Path.{_≡_, ap, sym, _∙_, subst}
+use mathlib.Core.Logic.{_↔_, _⊎_, inl, inr, ⊎-elim}
+use mathlib.Core.List.{List}
+use Prim.Native.Nat.{ℕ, _+_, _-_, _^_, _≤_, _<_}
+use native.Mathlib.Numerals.{add-one}
+use native.Mathlib.Decide.{ℕ-discrete}
+use native.Mathlib.Omega.{arith}
+use lib.ListN.{length, getD}
+use Rattle.whole.specs.logarithm.{log-of}
+use Rattle.field.specs.Field.{faultOf, NoFaultBefore, EndsAt}
+use Rattle.field.specs.Range.{Holds, packingWidth, refused, rangeOf, scanOf}
+use Rattle.field.proofs.Faults.{fits, overflowed, bad, standing, unmarked-fits, overflowed-fault, bad-fault, marked-faulty, fault-not-6, fault-not-14}
+use Rattle.field.proofs.Ranges.{least-bound, greatest-bound, least-held, greatest-held}
+use Rattle.field.proofs.Widths.{width-bound, width-least}
+use Rattle.field.proofs.Scans.{unequal, empty, ended, whole, stage, at-unequal, at-empty, at-places, at-fault, at-range, first-at, first-nowhere}
+
+-- ---- a place's fault, by its mark and its number
+
+module _ (mark number : ℕ) where
+  -- none exactly when the mark is 0
+  pub fault-0-exactly : (faultOf mark number ≡ 0) ↔ (mark ≡ 0)
+  fault-0-exactly = (only, unmarked-fits mark number)
+    where
+      only : faultOf mark number ≡ 0 → mark ≡ 0
+      only z = elim (ℕ-discrete mark 0) [ yes e ↦ e | no n ↦ absurd (marked-faulty mark number n z) ]
+
+  -- 15 exactly when the mark is neither 0 nor 1, or it is 1 and the number isn't 0
+  pub fault-15-exactly : (faultOf mark number ≡ 15) ↔ (((mark ≡ 0 → ⊥) × (mark ≡ 1 → ⊥)) ⊎ ((mark ≡ 1) × (number ≡ 0 → ⊥)))
+  fault-15-exactly = (
+    only,
+    ⊎-elim
+        (λ p. bad-fault mark number (p .0) (λ e z. p .1 e))
+        (λ p. let e = p .0 in bad-fault mark number (λ z. omega arith) (λ o z. p .1 z)),
+  )
+    where
+      only : faultOf mark number ≡ 15 → ((mark ≡ 0 → ⊥) × (mark ≡ 1 → ⊥)) ⊎ ((mark ≡ 1) × (number ≡ 0 → ⊥))
+      only f =
+          elim (standing mark number) [
+            | fits z g ↦ let a : ⊥ = omega arith in absurd a
+            | overflowed e z g ↦ let a : ⊥ = omega arith in absurd a
+            | bad m n g ↦ elim (ℕ-discrete mark 1) [ yes e ↦ inr (e, n e) | no o ↦ inl (m, o) ]
+          ]
+
+  -- 3 exactly when the mark is 1 and the number is 0
+  pub fault-3-exactly : (faultOf mark number ≡ 3) ↔ ((mark ≡ 1) × (number ≡ 0))
+  fault-3-exactly = (only, λ p. overflowed-fault mark number (p .0) (p .1))
+    where
+      only : faultOf mark number ≡ 3 → (mark ≡ 1) × (number ≡ 0)
+      only f =
+          elim (standing mark number) [
+            | fits z g ↦ let a : ⊥ = omega arith in absurd a
+            | overflowed e z g ↦ (e, z)
+            | bad m n g ↦ let a : ⊥ = omega arith in absurd a
+          ]
+
+module _ (numbers marks : List ℕ) where
+  -- ---- the range
+
+  -- where the code is 0, every place was looked at and the answer is the range
+  ranged-whole : scanOf numbers marks .code ≡ 0 → (length numbers ≡ length marks) × (0 < length numbers) × NoFaultBefore numbers marks (length numbers) × (scanOf numbers marks ≡ rangeOf numbers)
+  ranged-whole z =
+      elim (stage numbers marks) [
+        | unequal n s ↦ let f : ⊥ = omega (arith, ap (λ s. s .code) s) in absurd f
+        | empty e o s ↦ let f : ⊥ = omega (arith, ap (λ s. s .code) s) in absurd f
+        | ended e i h n b s ↦ absurd (n (sym (ap (λ s. s .code) s) ∙ z))
+        | whole e h b s ↦ (e, h, b, s)
+      ]
+
+  -- 0 exactly when the lengths are equal, the field isn't empty and every mark is 0
+  pub ranged-exactly
+      : (scanOf numbers marks .code ≡ 0)
+      ↔ ((length numbers ≡ length marks) × (0 < length numbers) × ((i : ℕ) → i < length numbers → getD marks i 0 ≡ 0))
+  ranged-exactly = (only, given)
+    where
+      only : scanOf numbers marks .code ≡ 0 → (length numbers ≡ length marks) × (0 < length numbers) × ((i : ℕ) → i < length numbers → getD marks i 0 ≡ 0)
+      only z = let w = ranged-whole z in (w .0, w .1, λ i k. fault-0-exactly (getD marks i 0) (getD numbers i 0) .0 (w .2 i k))
+
+      given : (length numbers ≡ length marks) × (0 < length numbers) × ((i : ℕ) → i < length numbers → getD marks i 0 ≡ 0) → scanOf numbers marks .code ≡ 0
+      given (e, h, a) =
+          let b = first-nowhere numbers marks (λ i k. unmarked-fits (getD marks i 0) (getD numbers i 0) (a i k)) in
+          ap (λ s. s .code) (at-places numbers marks e (λ z. omega arith) ∙ at-range numbers marks b)
+
+  module _ (ranged : scanOf numbers marks .code ≡ 0) where
+    -- the least is among the numbers, and at most each of them
+    pub least-among : Holds numbers (scanOf numbers marks .least)
+    least-among = let w = ranged-whole ranged in subst (Holds numbers) (sym (ap (λ s. s .least) (w .3))) (least-held numbers (w .1))
+
+    pub least-bounds : (i : ℕ) → i < length numbers → scanOf numbers marks .least ≤ getD numbers i 0
+    least-bounds i h = omega (arith, ap (λ s. s .least) (ranged-whole ranged .3), least-bound numbers i h)
+
+    -- the greatest is among the numbers, and at least each of them
+    pub greatest-among : Holds numbers (scanOf numbers marks .greatest)
+    greatest-among = let w = ranged-whole ranged in subst (Holds numbers) (sym (ap (λ s. s .greatest) (w .3))) (greatest-held numbers (w .1))
+
+    pub greatest-bounds : (i : ℕ) → i < length numbers → getD numbers i 0 ≤ scanOf numbers marks .greatest
+    greatest-bounds i h = omega (arith, ap (λ s. s .greatest) (ranged-whole ranged .3), greatest-bound numbers i h)
+
+    width-given : scanOf numbers marks .width ≡ packingWidth (scanOf numbers marks .greatest - scanOf numbers marks .least)
+    width-given =
+        let e = ranged-whole ranged .3 in
+        ap (λ s. s .width) e ∙ sym (ap (λ s. packingWidth (s .greatest - s .least)) e)
+
+    -- the width is log(2, greatest - least) + 1
+    pub width-is-log : scanOf numbers marks .width ≡ log-of 2 (scanOf numbers marks .greatest - scanOf numbers marks .least) + 1
+    unfolding packingWidth
+    width-is-log = width-given ∙ sym (add-one (log-of 2 (scanOf numbers marks .greatest - scanOf numbers marks .least)))
+
+    -- what lies between them fits so many bits
+    pub width-bounds-range : scanOf numbers marks .greatest - scanOf numbers marks .least < 2 ^ scanOf numbers marks .width
+    width-bounds-range =
+        let range = scanOf numbers marks .greatest - scanOf numbers marks .least in
+        subst (λ w. range < 2 ^ w) (sym width-given) (width-bound range)
+
+    -- and no smaller width of at least 1 does
+    pub width-smallest : (w : ℕ) → 0 < w → scanOf numbers marks .greatest - scanOf numbers marks .least < 2 ^ w → scanOf numbers marks .width ≤ w
+    width-smallest w p h = omega (arith, width-given, width-least (scanOf numbers marks .greatest - scanOf numbers marks .least) w p h)
+
+  -- ---- the refusals
+
+  -- 6, with place 0, exactly when the lengths differ
+  pub refused-6-exactly : (scanOf numbers marks ≡ refused 6 0) ↔ (length numbers ≡ length marks → ⊥)
+  refused-6-exactly = (only, at-unequal numbers marks)
+    where
+      only : scanOf numbers marks ≡ refused 6 0 → length numbers ≡ length marks → ⊥
+      only r q =
+          let c = ap (λ s. s .code) r in
+          elim (stage numbers marks) [
+            | unequal n s ↦ n q
+            | empty e o s ↦ omega (arith, ap (λ s. s .code) s)
+            | ended e i h n b s ↦ fault-not-6 (getD marks i 0) (getD numbers i 0) (sym (ap (λ s. s .code) s) ∙ c)
+            | whole e h b s ↦ omega (arith, ap (λ s. s .code) s)
+          ]
+
+  -- 14, with place 0, exactly when they are equal and the field is empty
+  pub refused-14-exactly : (scanOf numbers marks ≡ refused 14 0) ↔ ((length numbers ≡ length marks) × (length numbers ≡ 0))
+  refused-14-exactly = (only, λ p. at-empty numbers marks (p .0) (p .1))
+    where
+      only : scanOf numbers marks ≡ refused 14 0 → (length numbers ≡ length marks) × (length numbers ≡ 0)
+      only r =
+          let c = ap (λ s. s .code) r in
+          elim (stage numbers marks) [
+            | unequal n s ↦ let f : ⊥ = omega (arith, ap (λ s. s .code) s) in absurd f
+            | empty e o s ↦ (e, o)
+            | ended e i h n b s ↦ absurd (fault-not-14 (getD marks i 0) (getD numbers i 0) (sym (ap (λ s. s .code) s) ∙ c))
+            | whole e h b s ↦ let f : ⊥ = omega (arith, ap (λ s. s .code) s) in absurd f
+          ]
+
+  -- 15 or 3 with place i exactly when the lengths are equal and the first place with a fault is i, with this one
+  pub refused-at-exactly
+      : (c i : ℕ) →
+      (c ≡ 15) ⊎ (c ≡ 3) →
+      (scanOf numbers marks ≡ refused c i) ↔ ((length numbers ≡ length marks) × EndsAt numbers marks c i)
+  refused-at-exactly c i o = (only, given)
+    where
+      not-0 : c ≡ 0 → ⊥
+      not-0 z = ⊎-elim (λ e. omega arith) (λ e. omega arith) o
+
+      not-6 : 6 ≡ c → ⊥
+      not-6 z = ⊎-elim (λ e. omega arith) (λ e. omega arith) o
+
+      not-14 : 14 ≡ c → ⊥
+      not-14 z = ⊎-elim (λ e. omega arith) (λ e. omega arith) o
+
+      given : (length numbers ≡ length marks) × EndsAt numbers marks c i → scanOf numbers marks ≡ refused c i
+      given (e, (h, f, b)) =
+          at-places numbers marks e (λ z. omega arith) ∙ at-fault numbers marks i (first-at numbers marks i h (λ z. not-0 (sym f ∙ z)) b) h ∙ ap (λ c. refused c i) f
+
+      only : scanOf numbers marks ≡ refused c i → (length numbers ≡ length marks) × EndsAt numbers marks c i
+      only r =
+          elim (stage numbers marks) [
+            | unequal n s ↦ absurd (not-6 (ap (λ s. s .code) (sym s ∙ r)))
+            | empty e z s ↦ absurd (not-14 (ap (λ s. s .code) (sym s ∙ r)))
+            | ended e j h n b s ↦
+                let p = ap (λ s. s .code) (sym s ∙ r) in
+                (e, subst (EndsAt numbers marks c) (ap (λ s. s .place) (sym s ∙ r)) (h, p, b))
+            | whole e h b s ↦ absurd (not-0 (sym (ap (λ s. s .code) (sym s ∙ r))))
+          ]
+
+  -- no other number is given
+  pub only-codes
+      : (scanOf numbers marks .code ≡ 0)
+      ⊎ ((scanOf numbers marks .code ≡ 3) ⊎ ((scanOf numbers marks .code ≡ 6) ⊎ ((scanOf numbers marks .code ≡ 14) ⊎ (scanOf numbers marks .code ≡ 15))))
+  only-codes =
+      elim (stage numbers marks) [
+        | unequal n s ↦ inr (inr (inl (ap (λ s. s .code) s)))
+        | empty e o s ↦ inr (inr (inr (inl (ap (λ s. s .code) s))))
+        | ended e i h n b s ↦
+            elim (standing (getD marks i 0) (getD numbers i 0)) [
+              | fits z f ↦ absurd (n f)
+              | overflowed m z f ↦ inr (inl (ap (λ s. s .code) s ∙ f))
+              | bad m z f ↦ inr (inr (inr (inr (ap (λ s. s .code) s ∙ f))))
+            ]
+        | whole e h b s ↦ inl (ap (λ s. s .code) s)
+      ]
+
+  -- a marked place is never passed over: with one the scan is refused
+  pub never-passed-over : (i : ℕ) → i < length numbers → (getD marks i 0 ≡ 0 → ⊥) → scanOf numbers marks .code ≡ 0 → ⊥
+  never-passed-over i h m z = m (ranged-exactly .0 z .2 i h)
