@@ -1,0 +1,52 @@
+-- `sound::sound` meets its contract: the length, the check, the layout, in this order.
+-- Assumes nothing.
+use mathlib.Core.Path.{_≡_, refl, sym, _∙_}
+use mathlib.Core.List.{List}
+use Prim.Native.Nat.{ℕ}
+use borrow.Author.Needs.{needs}
+use Rattle.layout.specs.Bytes.{part, little}
+use Rattle.layout.specs.Layout.{check, checkSum}
+use Rattle.layout.proofs.Faults.{length-fault, check-fault, layout-fault, sound-fault}
+use Rattle.block.proofs.sound.sound.Statement.{statement}
+use Rattle.block.proofs.sound.sound.Tie as tie
+
+-- the check is read from its four bytes
+check-read : (b : List ℕ) → check b ≡ little (part 508 4 b)
+unfolding check
+check-read b = refl
+
+-- the check is right
+right : (c : tie.After-has-layout) → check (c .before .before .before .before .before .before .args .block .now) ≡ checkSum (c .before .before .before .before .before .before .args .block .now)
+right c =
+    let b = c .before .before .before .before .before .before .args .block .now in
+    check-read b ∙ sym (c .before .before .before .word .ensures) ∙ c .before .if2 .left ∙ c .before .before .check-sum .ensures
+
+returns : tie.Need-returns
+returns c = sym (length-fault (c .before .before .args .block .now) (c .if1 .taken))
+
+word-requires : tie.Need-word-requires
+word-requires c κs = search needs
+
+check-sum-requires : tie.Need-check-sum-requires
+check-sum-requires c κs = search needs
+
+returns-2 : tie.Need-returns-2
+returns-2 c =
+    let b = c .before .before .before .before .before .args .block .now in
+    sym (check-fault b (c .before .before .before .if1 .left) (λ e. c .if2 .taken (c .before .before .word .ensures ∙ sym (check-read b) ∙ e ∙ sym (c .before .check-sum .ensures))))
+
+has-layout-requires : tie.Need-has-layout-requires
+has-layout-requires c κs = search needs
+
+returns-3 : tie.Need-returns-3
+returns-3 c =
+    let b = c .before .before .before .before .before .before .before .args .block .now in
+    sym (sound-fault b (c .before .before .before .before .before .if1 .left) (right (c .before)) (sym (c .before .has-layout .ensures) ∙ c .if3 .taken))
+
+returns-4 : tie.Need-returns-4
+returns-4 c =
+    let b = c .before .before .before .before .before .before .before .args .block .now in
+    sym (layout-fault b (c .before .before .before .before .before .if1 .left) (right (c .before)) (sym (c .before .has-layout .ensures) ∙ c .if3 .left))
+
+pub sound-spec : {M : Type 1} → statement M
+sound-spec = tie.close (tie.spec returns word-requires check-sum-requires returns-2 has-layout-requires returns-3 returns-4)

@@ -1,0 +1,4 @@
+-- The definitions of this crate: what its functions answer in numbers; and, for its helpers, the sum by rows and the part of the layout on marks.
+pub mod Answers
+pub mod Rows
+pub mod Marks

@@ -1,0 +1,228 @@
+-- What reading a block promises, one named theorem for each promise: over `readingOf`, which gives a block's number and count or the refusal `readFault`,
+-- and over `numbersAfter` and `marksAfter`, which the two lent lists are afterwards.
+-- Assumes nothing.
+use mathlib.Core.Path.{_≡_, ap, sym, _∙_}
+use mathlib.Core.Logic.{_↔_, _⊎_, inl, inr, ⊎-elim}
+use mathlib.Core.Bool.{false, cond, false≢true}
+use mathlib.Core.List.{List}
+use Prim.Native.Nat.{ℕ, _^_, _≤_, _<_}
+use native.Mathlib.Decide.{ℕ-discrete}
+use native.Mathlib.Omega.{arith}
+use borrow.Author.Tests.{eq-eqb, ne-eqb}
+use lib.ListN.{length, getD, set, length-set}
+use Rattle.places.specs.Places.{over}
+use Rattle.places.proofs.Tables.{length-over, over-at, over-past}
+use Rattle.layout.specs.Bytes.{byteAt, Bytes}
+use Rattle.layout.specs.Layout.{count, blockNumber, number, mark, check, checkSum, hasLayout}
+use Rattle.layout.specs.Sound.{faultOf, readFault, given, refused, readingOf, numbersAfter, marksAfter}
+use Rattle.layout.specs.Told.{LaidOut}
+use Rattle.layout.proofs.Check.{check-below}
+use Rattle.layout.proofs.Changed.{check-wrong}
+use Rattle.layout.proofs.Faults.{length-fault, check-fault, layout-fault, other-length, wrong-check, other-layout, sound, stage, sound-parts, read-fault, read-sound, faulty, short, room, read-stage}
+use Rattle.layout.proofs.Layouts.{sound-exactly}
+
+-- ---- the check
+
+-- it is below 2^32, so nothing wraps
+pub check-below-2^32 : (b : List ℕ) → Bytes b → checkSum b < 2 ^ 32
+check-below-2^32 = check-below
+
+-- in a sound block any one byte changed is noticed, with 17
+pub changed-byte-noticed : (b : List ℕ) (i y : ℕ) → faultOf b ≡ 0 → i < 512 → (y ≡ byteAt b i → ⊥) → faultOf (set b i y) ≡ 17
+changed-byte-noticed b i y z h n =
+    let p = sound-parts b z in
+    check-fault (set b i y) (length-set b i y ∙ p .0) (check-wrong b y i (p .0) (p .1) h n)
+
+module _ (b numbers marks : List ℕ) where
+  -- ---- which blocks are accepted, and which refusal the others get
+
+  -- a block is accepted exactly when it has the layout and both lists have room
+  pub accepted-exactly : (readFault b numbers marks ≡ 0) ↔ (LaidOut b × (count b ≤ length numbers) × (count b ≤ length marks))
+  accepted-exactly = (only, λ p. read-sound b numbers marks (sound-exactly b .1 (p .0)) (p .1) (p .2))
+    where
+      only : readFault b numbers marks ≡ 0 → LaidOut b × (count b ≤ length numbers) × (count b ≤ length marks)
+      only e =
+          elim (read-stage b numbers marks) [
+            | faulty n r ↦ absurd (n (sym r ∙ e))
+            | short z s r ↦ absurd (omega arith)
+            | room z h k r ↦ (sound-exactly b .0 z, h, k)
+          ]
+
+  -- a fault of the block is its refusal, and no other refusal but 19 is given
+  faults-exactly : (c : ℕ) → (c ≡ 0 → ⊥) → (c ≡ 19 → ⊥) → (readFault b numbers marks ≡ c) ↔ (faultOf b ≡ c)
+  faults-exactly c n m = (only, λ e. read-fault b numbers marks (λ z. n (sym e ∙ z)) ∙ e)
+    where
+      only : readFault b numbers marks ≡ c → faultOf b ≡ c
+      only e =
+          elim (read-stage b numbers marks) [
+            | faulty f r ↦ sym r ∙ e
+            | short z s r ↦ absurd (m (sym e ∙ r))
+            | room z h k r ↦ absurd (n (sym e ∙ r))
+          ]
+
+  -- 16 exactly when it isn't 512 bytes
+  pub refused-16-exactly : (readFault b numbers marks ≡ 16) ↔ (length b ≡ 512 → ⊥)
+  refused-16-exactly =
+      let f = faults-exactly 16 (λ z. omega arith) (λ z. omega arith) in
+      (λ e. only (f .0 e), λ n. f .1 (length-fault b n))
+    where
+      only : faultOf b ≡ 16 → length b ≡ 512 → ⊥
+      only e l =
+          elim (stage b) [
+            | other-length n f ↦ n l
+            | wrong-check m n f ↦ omega arith
+            | other-layout m c h f ↦ omega arith
+            | sound m c h f ↦ omega arith
+          ]
+
+  -- 17 exactly when it is, and the check is wrong
+  pub refused-17-exactly : (readFault b numbers marks ≡ 17) ↔ ((length b ≡ 512) × (check b ≡ checkSum b → ⊥))
+  refused-17-exactly =
+      let f = faults-exactly 17 (λ z. omega arith) (λ z. omega arith) in
+      (λ e. only (f .0 e), λ p. f .1 (check-fault b (p .0) (p .1)))
+    where
+      only : faultOf b ≡ 17 → (length b ≡ 512) × (check b ≡ checkSum b → ⊥)
+      only e =
+          elim (stage b) [
+            | other-length n f ↦ absurd (omega arith)
+            | wrong-check l n f ↦ (l, n)
+            | other-layout l c h f ↦ absurd (omega arith)
+            | sound l c h f ↦ absurd (omega arith)
+          ]
+
+  -- 18 exactly when the check is right, and the layout is another
+  pub refused-18-exactly
+      : (readFault b numbers marks ≡ 18) ↔ ((length b ≡ 512) × (check b ≡ checkSum b) × (hasLayout b ≡ false))
+  refused-18-exactly =
+      let f = faults-exactly 18 (λ z. omega arith) (λ z. omega arith) in
+      (λ e. only (f .0 e), λ p. f .1 (layout-fault b (p .0) (p .1) (p .2)))
+    where
+      only : faultOf b ≡ 18 → (length b ≡ 512) × (check b ≡ checkSum b) × (hasLayout b ≡ false)
+      only e =
+          elim (stage b) [
+            | other-length n f ↦ absurd (omega arith)
+            | wrong-check l n f ↦ absurd (omega arith)
+            | other-layout l c h f ↦ (l, c, h)
+            | sound l c h f ↦ absurd (omega arith)
+          ]
+
+  -- in propositions: what document 01 says of a block isn't all so, though its length and its check are right
+  pub refused-18-told : (readFault b numbers marks ≡ 18) ↔ ((length b ≡ 512) × (check b ≡ checkSum b) × (LaidOut b → ⊥))
+  refused-18-told = (only, back)
+    where
+      only : readFault b numbers marks ≡ 18 → (length b ≡ 512) × (check b ≡ checkSum b) × (LaidOut b → ⊥)
+      only e =
+          let p = refused-18-exactly .0 e in
+          (p .0, p .1, λ l. false≢true (sym (p .2) ∙ sound-parts b (sound-exactly b .1 l) .2))
+
+      back : (length b ≡ 512) × (check b ≡ checkSum b) × (LaidOut b → ⊥) → readFault b numbers marks ≡ 18
+      back p =
+          elim (stage b) [
+            | other-length n f ↦ absurd (n (p .0))
+            | wrong-check l n f ↦ absurd (n (p .1))
+            | other-layout l c h f ↦ refused-18-exactly .1 (l, c, h)
+            | sound l c h f ↦ absurd (p .2 (sound-exactly b .0 f))
+          ]
+
+  -- 19 exactly when the block is sound, and one of the lists has no room for what would be written
+  pub refused-19-exactly
+      : (readFault b numbers marks ≡ 19) ↔ ((faultOf b ≡ 0) × ((length numbers < count b) ⊎ (length marks < count b)))
+  refused-19-exactly = (only, back)
+    where
+      only : readFault b numbers marks ≡ 19 → (faultOf b ≡ 0) × ((length numbers < count b) ⊎ (length marks < count b))
+      only e =
+          elim (read-stage b numbers marks) [
+            | short z s r ↦ (z, s)
+            | room z h k r ↦ absurd (omega arith)
+            | faulty n r ↦
+                elim (stage b) [
+                  | other-length m f ↦ absurd (omega arith)
+                  | wrong-check l m f ↦ absurd (omega arith)
+                  | other-layout l c h f ↦ absurd (omega arith)
+                  | sound l c h f ↦ absurd (n f)
+                ]
+          ]
+
+      back : (faultOf b ≡ 0) × ((length numbers < count b) ⊎ (length marks < count b)) → readFault b numbers marks ≡ 19
+      back p =
+          elim (read-stage b numbers marks) [
+            | faulty n r ↦ absurd (n (p .0))
+            | short z s r ↦ r
+            | room z h k r ↦ absurd (⊎-elim (λ s. omega arith) (λ s. omega arith) (p .1))
+          ]
+
+  -- no other refusal is given
+  pub only-codes
+      : (readFault b numbers marks ≡ 0) ⊎ ((readFault b numbers marks ≡ 16) ⊎ ((readFault b numbers marks ≡ 17) ⊎ ((readFault b numbers marks ≡ 18) ⊎ (readFault b numbers marks ≡ 19))))
+  only-codes =
+      elim (read-stage b numbers marks) [
+        | short z s r ↦ inr (inr (inr (inr r)))
+        | room z h k r ↦ inl r
+        | faulty n r ↦
+            elim (stage b) [
+              | other-length m f ↦ inr (inl (r ∙ f))
+              | wrong-check l m f ↦ inr (inr (inl (r ∙ f)))
+              | other-layout l c h f ↦ inr (inr (inr (inl (r ∙ f))))
+              | sound l c h f ↦ absurd (n f)
+            ]
+      ]
+
+  -- ---- what is given back
+
+  -- where it is accepted, the block's number and its count
+  pub given-where-accepted : readFault b numbers marks ≡ 0 → readingOf b numbers marks ≡ given (blockNumber b) (count b)
+  given-where-accepted e =
+      ap (λ u. cond u (given (blockNumber b) (count b)) (refused (readFault b numbers marks))) (eq-eqb (readFault b numbers marks) 0 e)
+
+  -- where it is refused, the refusal's number at place 0
+  pub refused-at-0 : (readFault b numbers marks ≡ 0 → ⊥) → readingOf b numbers marks ≡ refused (readFault b numbers marks)
+  refused-at-0 n =
+      ap (λ u. cond u (given (blockNumber b) (count b)) (refused (readFault b numbers marks))) (ne-eqb (readFault b numbers marks) 0 n)
+
+  -- ---- what the two lists hold afterwards
+
+  -- where it is accepted, they are written over from their first place on
+  pub written
+      : readFault b numbers marks ≡ 0 →
+      (numbersAfter b numbers marks ≡ over (number b) (count b) numbers) × (marksAfter b numbers marks ≡ over (mark b) (count b) marks)
+  written e =
+      let t = eq-eqb (readFault b numbers marks) 0 e in
+      (ap (λ u. cond u (over (number b) (count b) numbers) numbers) t, ap (λ u. cond u (over (mark b) (count b) marks) marks) t)
+
+  -- where the block is refused, both lists stay as they are
+  pub lists-stay : (readFault b numbers marks ≡ 0 → ⊥) → (numbersAfter b numbers marks ≡ numbers) × (marksAfter b numbers marks ≡ marks)
+  lists-stay n =
+      let t = ne-eqb (readFault b numbers marks) 0 n in
+      (ap (λ u. cond u (over (number b) (count b) numbers) numbers) t, ap (λ u. cond u (over (mark b) (count b) marks) marks) t)
+
+  -- so, where it is accepted, with its numbers and its marks
+  pub numbers-read : readFault b numbers marks ≡ 0 → (i : ℕ) → i < count b → getD (numbersAfter b numbers marks) i 0 ≡ number b i
+  numbers-read e i h = ap (λ l. getD l i 0) (written e .0) ∙ over-at (number b) numbers (count b) i h
+
+  pub marks-read : readFault b numbers marks ≡ 0 → (i : ℕ) → i < count b → getD (marksAfter b numbers marks) i 0 ≡ mark b i
+  marks-read e i h = ap (λ l. getD l i 0) (written e .1) ∙ over-at (mark b) marks (count b) i h
+
+  -- and nothing past them
+  pub nothing-past-numbers : (i : ℕ) → count b ≤ i → getD (numbersAfter b numbers marks) i 0 ≡ getD numbers i 0
+  nothing-past-numbers i h =
+      elim (ℕ-discrete (readFault b numbers marks) 0) [
+        | yes e ↦ ap (λ l. getD l i 0) (written e .0) ∙ over-past (number b) numbers (count b) i h
+        | no n ↦ ap (λ l. getD l i 0) (lists-stay n .0)
+      ]
+
+  pub nothing-past-marks : (i : ℕ) → count b ≤ i → getD (marksAfter b numbers marks) i 0 ≡ getD marks i 0
+  nothing-past-marks i h =
+      elim (ℕ-discrete (readFault b numbers marks) 0) [
+        | yes e ↦ ap (λ l. getD l i 0) (written e .1) ∙ over-past (mark b) marks (count b) i h
+        | no n ↦ ap (λ l. getD l i 0) (lists-stay n .1)
+      ]
+
+  -- neither list gets longer or shorter
+  pub lengths-stay : (length (numbersAfter b numbers marks) ≡ length numbers) × (length (marksAfter b numbers marks) ≡ length marks)
+  lengths-stay =
+      elim (ℕ-discrete (readFault b numbers marks) 0) [
+        | yes e ↦
+            let p = accepted-exactly .0 e in
+            (ap length (written e .0) ∙ length-over (number b) numbers (count b) (p .1), ap length (written e .1) ∙ length-over (mark b) marks (count b) (p .2))
+        | no n ↦ (ap length (lists-stay n .0), ap length (lists-stay n .1))
+      ]

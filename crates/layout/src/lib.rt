@@ -1,0 +1,1 @@
+// Laws only: this crate has no function.
