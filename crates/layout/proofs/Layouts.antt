@@ -1,4 +1,4 @@
--- A block has the layout exactly when each of seven tests holds, and it is sound exactly when what document 01 says of a block is so.
+-- A block has the layout exactly when each of seven tests holds, and it is sound exactly when each sentence of `Told` is so.
 -- Assumes nothing.
 use mathlib.Core.Path.{_≡_, ap₂}
 use mathlib.Core.Logic.{_↔_, inl, inr}

@@ -1,6 +1,6 @@
 -- Laws on the layout: `Little` on numbers as bytes; `Check` on the check's sum and `Changed` on one byte changed; `Zeros` on bytes that are zero; `Faults`
--- on which refusal a block gets; `Layouts` that a block is sound exactly when document 01's sentences hold of it; `Promises` what reading promises;
--- `Examples` computes document 01's three checks.
+-- on which refusal a block gets; `Layouts` that a block is sound exactly when the sentences of `Told` hold of it; `Promises` what reading promises;
+-- `Examples` computes three checks.
 pub mod Little
 pub mod Check
 pub mod Zeros

@@ -106,7 +106,7 @@ module _ (b numbers marks : List ℕ) where
             | sound l c h f ↦ absurd (omega arith)
           ]
 
-  -- in propositions: what document 01 says of a block isn't all so, though its length and its check are right
+  -- in propositions: what `Told` says of a block isn't all so, though its length and its check are right
   pub refused-18-told : (readFault b numbers marks ≡ 18) ↔ ((length b ≡ 512) × (check b ≡ checkSum b) × (LaidOut b → ⊥))
   refused-18-told = (only, back)
     where

@@ -1,4 +1,4 @@
--- The layout of a block once more, each sentence of document 01 a proposition. A block has no fault exactly when they hold: `sound-exactly`.
+-- The layout of a block once more, each sentence of it a proposition. A block has no fault exactly when they hold: `sound-exactly`.
 -- Assumes nothing.
 use mathlib.Core.Path.{_≡_}
 use mathlib.Core.Logic.{_⊎_}
