@@ -12,52 +12,45 @@ use Rattle.places.proofs.Tables.{over-none, over-more, over-at, over-past, leng
 use Rattle.layout.specs.Bytes.{byteAt, Bytes}
 use Rattle.layout.specs.Layout.{weighed}
 use Rattle.layout.proofs.Check.{by-rows}
-use Rattle.block.specs.Rows.{cell, rowed, allMore, rowsMore, Room, Columns, Small, columnWeight}
+use Rattle.block.specs.Rows.{cell, rowed, allWith, rowsWith, allMore, rowsMore, Columns, Small, columnWeight}
 
 -- ---- one row added, column by column
 
 module _ (b : List ℕ) (at : ℕ) (all₀ rows₀ : List ℕ) where
-  abbrev allWith : ℕ → ℕ
-  allWith j = getD all₀ j 0 + byteAt b (at + j)
-
-  abbrev rowsWith : ℕ → ℕ
-  rowsWith j = getD rows₀ j 0 + getD all₀ j 0
-
   -- the first j columns are done
   pub record Added (j : ℕ) (all rows : List ℕ) : Type 0 where
-    pub all-done : all ≡ over allWith j all₀
-    pub rows-done : rows ≡ over rowsWith j rows₀
+    pub all-done : all ≡ over (allWith b at all₀) j all₀
+    pub rows-done : rows ≡ over (rowsWith all₀ rows₀) j rows₀
     pub within : j ≤ 64
 
   pub added-none : Added 0 all₀ rows₀
-  added-none = record { all-done = sym (over-none allWith all₀); rows-done = sym (over-none rowsWith rows₀); within = omega arith }
+  added-none =
+      record { all-done = sym (over-none (allWith b at all₀) all₀); rows-done = sym (over-none (rowsWith all₀ rows₀) rows₀); within = omega arith }
 
-  module _ (room : Room all₀ rows₀) (j : ℕ) (all rows : List ℕ) (a : Added j all rows) (h : j < 64) where
+  module _ (small : Small all₀ rows₀) (j : ℕ) (all rows : List ℕ) (a : Added j all rows) (h : j < 64) where
     -- column j is as it was
     all-there : getD all j 0 ≡ getD all₀ j 0
-    all-there = ap (λ l. getD l j 0) (a .all-done) ∙ over-past allWith all₀ j j (omega arith)
+    all-there = ap (λ l. getD l j 0) (a .all-done) ∙ over-past (allWith b at all₀) all₀ j j (omega arith)
 
     rows-there : getD rows j 0 ≡ getD rows₀ j 0
-    rows-there = ap (λ l. getD l j 0) (a .rows-done) ∙ over-past rowsWith rows₀ j j (omega arith)
+    rows-there = ap (λ l. getD l j 0) (a .rows-done) ∙ over-past (rowsWith all₀ rows₀) rows₀ j j (omega arith)
 
-    -- so its sums fit
-    pub all-fits : getD all j 0 ≤ 65280
-    all-fits = omega (arith, all-there, room .all-room j h)
-
-    pub rows-fit : getD rows j 0 + getD all j 0 ≤ 65535
-    rows-fit = omega (arith, all-there, rows-there, room .rows-room j h)
+    -- so its sums are small
+    pub column-small : (getD all j 0 ≤ 2040) × (getD rows j 0 ≤ 14280)
+    column-small = (omega (arith, all-there, small .all-small j h), omega (arith, rows-there, small .rows-small j h))
 
     pub added-more : Added (j + 1) (set all j (getD all j 0 + byteAt b (at + j))) (set rows j (getD rows j 0 + getD all j 0))
     added-more =
         let e : suc j ≡ j + 1 = omega arith in
-        let la : j < length all₀ = omega (arith, room .all-length) in
-        let lr : j < length rows₀ = omega (arith, room .rows-length) in
+        let la : j < length all₀ = omega (arith, small .all-length) in
+        let lr : j < length rows₀ = omega (arith, small .rows-length) in
         record {
           all-done =
-              ap₂ (λ l v. set l j v) (a .all-done) (ap (λ v. v + byteAt b (at + j)) all-there) ∙ over-more allWith all₀ j la
-              ∙ ap (λ n. over allWith n all₀) e;
+              ap₂ (λ l v. set l j v) (a .all-done) (ap (λ v. v + byteAt b (at + j)) all-there) ∙ over-more (allWith b at all₀) all₀ j la
+              ∙ ap (λ n. over (allWith b at all₀) n all₀) e;
           rows-done =
-              ap₂ (λ l v. set l j v) (a .rows-done) (ap₂ _+_ rows-there all-there) ∙ over-more rowsWith rows₀ j lr ∙ ap (λ n. over rowsWith n rows₀) e;
+              ap₂ (λ l v. set l j v) (a .rows-done) (ap₂ _+_ rows-there all-there) ∙ over-more (rowsWith all₀ rows₀) rows₀ j lr
+              ∙ ap (λ n. over (rowsWith all₀ rows₀) n rows₀) e;
           within = omega arith;
         }
 
@@ -66,7 +59,7 @@ module _ (b : List ℕ) (at : ℕ) (all₀ rows₀ : List ℕ) where
   added-all j all rows a h =
       let w = a .within in
       let e : j ≡ 64 = omega arith in
-      (a .all-done ∙ ap (λ n. over allWith n all₀) e, a .rows-done ∙ ap (λ n. over rowsWith n rows₀) e)
+      (a .all-done ∙ ap (λ n. over (allWith b at all₀) n all₀) e, a .rows-done ∙ ap (λ n. over (rowsWith all₀ rows₀) n rows₀) e)
 
 -- ---- while rows are still to come
 
@@ -94,16 +87,6 @@ module _ (b : List ℕ) (bytes : Bytes b) where
         rows-small = λ j h. omega (arith, c .rows-so-far j h, rowed-at-most j);
       }
 
-  pub columns-room : (row : ℕ) (all rows : List ℕ) → Columns b row all rows → Room all rows
-  columns-room row all rows c =
-      let s = columns-small row all rows c in
-      record {
-        all-length = c .all-length;
-        rows-length = c .rows-length;
-        all-room = λ j h. omega (arith, s .all-small j h);
-        rows-room = λ j h. omega (arith, s .all-small j h, s .rows-small j h);
-      }
-
 -- before the first row
 pub columns-start : (b : List ℕ) → Columns b 8 (replicate 64 0) (replicate 64 0)
 columns-start b =
@@ -118,20 +101,14 @@ columns-start b =
 pub columns-more
     : (b : List ℕ) (row : ℕ) (all rows : List ℕ) → Columns b (suc row) all rows → Columns b row (allMore b (64 * row) all) (rowsMore all rows)
 columns-more b row all rows c =
+    let added = over-at (allWith b (64 * row) all) all 64 in
+    let raised = over-at (rowsWith all rows) rows 64 in
     record {
-      all-length = length-over allWith all 64 (omega (arith, c .all-length)) ∙ c .all-length;
-      rows-length = length-over rowsWith rows 64 (omega (arith, c .rows-length)) ∙ c .rows-length;
-      all-so-far = λ j h. omega (arith, over-at allWith all 64 j h, c .all-so-far j h, total-more (cell b j) row);
-      rows-so-far =
-          λ j h.
-          omega (arith, ap (λ n. row * n) (over-at allWith all 64 j h), over-at rowsWith rows 64 j h, c .rows-so-far j h, total-more (rowed b j) row);
+      all-length = length-over (allWith b (64 * row) all) all 64 (omega (arith, c .all-length)) ∙ c .all-length;
+      rows-length = length-over (rowsWith all rows) rows 64 (omega (arith, c .rows-length)) ∙ c .rows-length;
+      all-so-far = λ j h. omega (arith, added j h, c .all-so-far j h, total-more (cell b j) row);
+      rows-so-far = λ j h. omega (arith, ap (λ n. row * n) (added j h), raised j h, c .rows-so-far j h, total-more (rowed b j) row);
     }
-  where
-    allWith : ℕ → ℕ
-    allWith j = getD all j 0 + cell b j row
-
-    rowsWith : ℕ → ℕ
-    rowsWith j = getD rows j 0 + getD all j 0
 
 -- ---- the columns weighed
 

@@ -17,19 +17,19 @@ rowed b j q = q * cell b j q
 
 -- ---- one row more
 
--- `all` with the 64 bytes from place `at` on added, and `rows` with `all` added
+-- column j of `all` with the byte at place `at` + j added, and of `rows` with `all` added
+abbrev pub allWith : List ℕ → ℕ → List ℕ → ℕ → ℕ
+allWith b at all j = getD all j 0 + byteAt b (at + j)
+
+abbrev pub rowsWith : List ℕ → List ℕ → ℕ → ℕ
+rowsWith all rows j = getD rows j 0 + getD all j 0
+
+-- all 64 columns so
 abbrev pub allMore : List ℕ → ℕ → List ℕ → List ℕ
-allMore b at all = over (λ j. getD all j 0 + byteAt b (at + j)) 64 all
+allMore b at all = over (allWith b at all) 64 all
 
 abbrev pub rowsMore : List ℕ → List ℕ → List ℕ
-rowsMore all rows = over (λ j. getD rows j 0 + getD all j 0) 64 rows
-
--- there is room for a row more in 16 bits
-pub record Room (all rows : List ℕ) : Type 0 where
-  pub all-length : length all ≡ 64
-  pub rows-length : length rows ≡ 64
-  pub all-room : (j : ℕ) → j < 64 → getD all j 0 ≤ 65280
-  pub rows-room : (j : ℕ) → j < 64 → getD rows j 0 + getD all j 0 ≤ 65535
+rowsMore all rows = over (rowsWith all rows) 64 rows
 
 -- ---- where `row` rows are still to come
 
@@ -39,14 +39,14 @@ pub record Columns (b : List ℕ) (row : ℕ) (all rows : List ℕ) : Type 0 whe
   pub all-so-far : (j : ℕ) → j < 64 → getD all j 0 + total (cell b j) row ≡ total (cell b j) 8
   pub rows-so-far : (j : ℕ) → j < 64 → getD rows j 0 + row * getD all j 0 + total (rowed b j) row ≡ total (rowed b j) 8
 
--- ---- the sum of all columns
-
-abbrev pub columnWeight : List ℕ → List ℕ → ℕ → ℕ
-columnWeight all rows j = 64 * getD rows j 0 + suc j * getD all j 0
-
--- no column weighs too much for 32 bits
+-- so no sum is too large for 16 bits, nor one row more, nor what all columns weigh for 32
 pub record Small (all rows : List ℕ) : Type 0 where
   pub all-length : length all ≡ 64
   pub rows-length : length rows ≡ 64
   pub all-small : (j : ℕ) → j < 64 → getD all j 0 ≤ 2040
   pub rows-small : (j : ℕ) → j < 64 → getD rows j 0 ≤ 14280
+
+-- ---- the sum of all columns
+
+abbrev pub columnWeight : List ℕ → List ℕ → ℕ → ℕ
+columnWeight all rows j = 64 * getD rows j 0 + suc j * getD all j 0

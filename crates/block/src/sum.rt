@@ -5,11 +5,11 @@ ghost use Prim.Native.Nat.{_+_, _≤_};
 ghost use lib.ListN.{length};
 ghost use Rattle.places.specs.Places.{total};
 ghost use Rattle.layout.specs.Layout.{weighed, checkSum};
-ghost use Rattle.block.specs.Rows.{Room, Small, allMore, rowsMore, columnWeight};
+ghost use Rattle.block.specs.Rows.{Small, allMore, rowsMore, columnWeight};
 
 // One row more, the 64 bytes from place `at` on.
 fn add_row(b: &[u8], at: usize, all: &mut [u16; 64], rows: &mut [u16; 64])
-    requires { ⌜ (at + 64 ≤ length (now b)) × (length (now b) ≤ 512) × Room (now all) (now rows) ⌝ }
+    requires { ⌜ (at + 64 ≤ length (now b)) × (length (now b) ≤ 512) × Small (now all) (now rows) ⌝ }
     ensures { λ r. ⌜ (now (all .exit) ≡ allMore (now (b .entry)) at (now (all .entry))) × (now (rows .exit) ≡ rowsMore (now (all .entry)) (now (rows .entry))) ⌝ }
 {
     let mut j = 0;

@@ -36,7 +36,7 @@ unfolding total
 total-zero zero = refl
 total-zero (suc n) = let e = total-zero n in omega arith
 
--- the places of m rows, then n more
+-- the first m places, then n more
 pub total-split : (f : ℕ → ℕ) (m n : ℕ) → total f (m + n) ≡ total f m + total (λ j. f (m + j)) n
 unfolding total
 total-split f m zero = omega (arith, ap (total f) (add-zero m))
@@ -68,7 +68,7 @@ total-at-most f most (suc n) h =
 
 -- ---- one place changed
 
--- from a to b at place i
+-- f and g differ at place i alone
 pub total-changed : (f g : ℕ → ℕ) (i n : ℕ) → i < n → ((j : ℕ) → (j ≡ i → ⊥) → f j ≡ g j) → total f n + g i ≡ total g n + f i
 unfolding total
 total-changed f g i zero l e = absurd (omega arith)

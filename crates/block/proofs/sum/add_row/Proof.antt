@@ -4,7 +4,7 @@ use Prim.Native.Nat.{_+_, _-_, _≤_}
 use native.Mathlib.Omega.{arith}
 use borrow.Author.Needs.{needs}
 use lib.ListN.{getD}
-use Rattle.block.proofs.Columns.{Added, added-none, added-more, added-all, all-fits, rows-fit}
+use Rattle.block.proofs.Columns.{Added, added-none, added-more, added-all, column-small}
 use Rattle.block.proofs.sum.add_row.Statement.{statement}
 use Rattle.block.proofs.sum.add_row.Tie as tie
 
@@ -14,21 +14,14 @@ Inv-loop b at all₀ rows₀ j₀ all rows j = Added b at all₀ rows₀ j all r
 abbrev μ-loop : tie.MeasureT-loop
 μ-loop b at all₀ rows₀ j₀ all rows j = 64 - j
 
--- the sums of column j fit
-module _ (d : tie.In-loop Inv-loop μ-loop) where
-  abbrev loop : tie.At-loop Inv-loop μ-loop
-  loop = d .before
-
-  abbrev start : tie.Start Inv-loop μ-loop
-  start = loop .before
-
-  here : (getD (loop .loop .all) (loop .loop .j) 0 ≤ 65280) × (getD (loop .loop .rows) (loop .loop .j) 0 + getD (loop .loop .all) (loop .loop .j) 0 ≤ 65535)
-  here =
-      let g = start .args in
-      let l = loop .loop in (
-        all-fits (g .b .now) (g .at) (g .all .now) (g .rows .now) (start .pre .2) (l .j) (l .all) (l .rows) (l .inv) (d .loop-test .taken),
-        rows-fit (g .b .now) (g .at) (g .all .now) (g .rows .now) (start .pre .2) (l .j) (l .all) (l .rows) (l .inv) (d .loop-test .taken),
-      )
+-- the sums of column j are small
+here
+    : (d : tie.In-loop Inv-loop μ-loop) →
+    (getD (d .before .loop .all) (d .before .loop .j) 0 ≤ 2040) × (getD (d .before .loop .rows) (d .before .loop .j) 0 ≤ 14280)
+here d =
+    let g = d .before .before .args in
+    let l = d .before .loop in
+    column-small (g .b .now) (g .at) (g .all .now) (g .rows .now) (d .before .before .pre .2) (l .j) (l .all) (l .rows) (l .inv) (d .loop-test .taken)
 
 loop-holds : tie.Need-loop-holds Inv-loop μ-loop
 loop-holds c = added-none (c .args .b .now) (c .args .at) (c .args .all .now) (c .args .rows .now)

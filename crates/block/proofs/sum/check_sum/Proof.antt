@@ -7,7 +7,7 @@ use borrow.Author.Needs.{needs}
 use Rattle.layout.specs.Bytes.{Bytes}
 use Rattle.layout.specs.Layout.{checkSum}
 use Rattle.block.specs.Rows.{Columns, allMore}
-use Rattle.block.proofs.Columns.{columns-start, columns-more, columns-room, columns-small, columns-weigh}
+use Rattle.block.proofs.Columns.{columns-start, columns-more, columns-small, columns-weigh}
 use Rattle.block.proofs.sum.check_sum.Statement.{statement}
 use Rattle.block.proofs.sum.check_sum.Tie as tie
 
@@ -45,7 +45,7 @@ mul-add-row c = search needs
 add-row-requires : tie.Need-add-row-requires Inv-loop μ-loop
 add-row-requires c κs =
     let l = c .before .before .before in
-    (omega arith, omega arith, columns-room (l .before .before .args .b .now) (bytes-of l) (l .loop .row) (l .loop .all) (l .loop .rows) (l .loop .inv .0))
+    (omega arith, omega arith, columns-small (l .before .before .args .b .now) (bytes-of l) (l .loop .row) (l .loop .all) (l .loop .rows) (l .loop .inv .0))
 
 loop-less : tie.Need-loop-less Inv-loop μ-loop
 loop-less c = search needs
