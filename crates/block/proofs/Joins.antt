@@ -4,25 +4,13 @@ use mathlib.Core.Path.{_≡_, ap, sym, _∙_}
 use mathlib.Core.Bool.{_&&_}
 use mathlib.Core.List.{List}
 use Prim.Native.Nat.{ℕ, _+_, _≤_}
-use native.Mathlib.Decide.{ℕ-discrete}
 use native.Mathlib.Numerals.{add-one}
-use native.Mathlib.Omega.{arith}
-use borrow.Author.Tests.{eq-eqb, ne-eqb}
-use lib.Bits.{bitOr, or-zero-l, or-add-and, and-le-r}
+use lib.Bits.{bitOr}
 use lib.Dec.{eqb}
+use Rattle.field.proofs.Joined.{or-zero}
 use Rattle.layout.specs.Bytes.{byteAt}
 use Rattle.layout.specs.Layout.{zeroAt, zeros}
 use Rattle.layout.proofs.Zeros.{zeros-more}
-
--- two numbers joined are zero exactly where both are
-pub or-zero : (a x : ℕ) → eqb (bitOr a x) 0 ≡ (eqb a 0 && eqb x 0)
-or-zero a x =
-    elim (ℕ-discrete a 0) [
-      | yes p ↦ ap (λ n. eqb n 0) (ap (λ n. bitOr n x) p ∙ or-zero-l x) ∙ ap (λ t. t && eqb x 0) (sym (eq-eqb a 0 p))
-      | no n ↦
-          let set : bitOr a x ≡ 0 → ⊥ = λ e. n (let s = or-add-and a x in let l = and-le-r a x in omega arith) in
-          ne-eqb (bitOr a x) 0 set ∙ ap (λ t. t && eqb x 0) (sym (ne-eqb a 0 n))
-    ]
 
 -- one turn of the loop that joins them
 pub zeros-turn : (from i any : ℕ) (b : List ℕ) → from ≤ i → eqb any 0 ≡ zeros from i b → eqb (bitOr any (byteAt b i)) 0 ≡ zeros from (i + 1) b

@@ -2,6 +2,7 @@
 pub mod Arms
 pub mod Limit
 pub mod Powers
+pub mod Squares
 pub mod Logarithms
 pub mod Standing
 pub mod Promises

@@ -28,13 +28,6 @@ product-within M a b n h = let p : 0 < a = omega arith in subst (λ x. x ≤ M) 
 pub product-beyond : (M a b : ℕ) → (a ≡ 0 → ⊥) → M / a < b → M < a * b
 product-beyond M a b n h = let p : 0 < a = omega arith in subst (λ x. M < x) (mul-comm b a) (div-lt-iff-lt-mul p .0 h)
 
--- two numbers below 2^32 have a product below 2^64
-pub product-of-halves : (a b : ℕ) → a < 4294967296 → b < 4294967296 → a * b < 18446744073709551616
-product-of-halves a b h k =
-    let n : a ≤ 4294967295 = omega arith in
-    let m : b ≤ 4294967295 = omega arith in
-    omega (arith, mul-le-mul-left a m)
-
 pub product-of-zero : (M a b : ℕ) → a ≡ 0 → Fits 0 ≡ checkedOf M (a * b)
 product-of-zero M a b e = fits M 0 zero-le ∙ ap (checkedOf M) (sym (ap (λ x. x * b) e ∙ zero-mul b))
 

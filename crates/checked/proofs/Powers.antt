@@ -28,7 +28,7 @@ absorb-power M x y (suc e) =
     moved a b c = omega arith
 
 -- the square's power is the power by twice the exponent
-squared : (s k : ℕ) → (s * s) ^ k ≡ s ^ (k + k)
+pub squared : (s k : ℕ) → (s * s) ^ k ≡ s ^ (k + k)
 squared s zero = pow-zero (s * s) ∙ sym (pow-zero s)
 squared s (suc k) =
     pow-suc (s * s) k ∙ ap (λ p. p * (s * s)) (squared s k) ∙ sym (mul-assoc (s ^ (k + k)) s s) ∙ ap (λ p. p * s) (sym (pow-suc s (k + k)))
@@ -54,13 +54,7 @@ pub power-begins : (M b e : ℕ) {first second : Value} → first ≡ checkedOf 
 power-begins M b e p q =
     ap₂ (λ f s. powered M f s e) p q ∙ absorb-power M (least M (checkedOf M 1)) b e ∙ absorb-left M 1 (b ^ e) ∙ ap (checkedOf M) (one-mul (b ^ e))
 
--- with the exponent 1 it is the two values' product, with 0 the first value
-pub last-digit : (M : ℕ) (first second : Value) (e : ℕ) → e ≡ 1 → productOf M first second ≡ powered M first second e
-last-digit M first second e h = ap (λ p. checkedOf M (least M first * p)) (sym (ap (λ n. least M second ^ n) h ∙ pow-one (least M second)))
-  where
-    pow-one : (n : ℕ) → n ^ 1 ≡ n
-    pow-one n = pow-suc n 0 ∙ ap (λ p. p * n) (pow-zero n) ∙ one-mul n
-
+-- with the exponent 0 it is the first value
 pub no-digit : (M : ℕ) (first second : Value) (e : ℕ) → e ≡ 0 → checkedOf M (least M first) ≡ powered M first second e
 no-digit M first second e h =
     ap (checkedOf M) (sym (ap (λ n. least M first * least M second ^ n) h ∙ ap (λ p. least M first * p) (pow-zero (least M second)) ∙ mul-one (least M first)))

@@ -57,3 +57,11 @@ pub the-one
     : (M : ℕ) (op : ℕ → ℕ → ℕ) (a b c : Value) → Within M a → Within M b → ((m n : ℕ) → Stands M a m → Stands M b n → Stands M c (op m n)) →
     c ≡ checkedOf M (op (least M a) (least M b))
 the-one M op a b c wa wb f = standing M c (op (least M a) (least M b)) (f (least M a) (least M b) (least-stands M a wa) (least-stands M b wb))
+
+-- ---- what a value says of the number that it stands for
+
+pub is-fitting : (M n m : ℕ) → checkedOf M n ≡ Fits m → n ≡ m
+is-fitting M n m e = subst (λ c. Stands M c n) e (stands M n) .0
+
+pub is-overflowed : (M n : ℕ) → checkedOf M n ≡ Overflowed → M < n
+is-overflowed M n e = subst (λ c. Stands M c n) e (stands M n)

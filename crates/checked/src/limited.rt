@@ -9,6 +9,7 @@ ghost use Prim.Native.Nat.{ℕ, _+_, _*_, _^_, _<_};
 ghost use Rattle.whole.specs.logarithm.{log-of};
 ghost use Rattle.checked.specs.declared.types.Checked64.the-variants.{Fits, Overflowed};
 ghost use Rattle.checked.specs.Value.{checkedOf, sumOf, productOf, bothOf};
+ghost use Rattle.checked.specs.Turns.{Turned};
 ghost use Rattle.checked.specs.Paper.{paper, refused, quotientOf, remainderOf, powerOf, logarithmOf, dividedBy, leftBy, logOf};
 
 // ---- on numbers
@@ -36,23 +37,17 @@ pub fn checked_add(limit: u64, a: u64, b: u64) -> Checked64
     Checked64::Overflowed
 }
 
-// The product of two numbers. Where both are below 2^32 it can't wrap; otherwise b is compared with the largest factor that a
-// has below the limit, which takes a division.
+// The product of two numbers. b is compared with the largest factor that a has within 64 bits, so that nothing wraps; a compiler
+// makes a multiplication of this test, and no division.
 pub fn checked_mul(limit: u64, a: u64, b: u64) -> Checked64
     ensures { λ r. ⌜ r ≡ checkedOf limit (a * b) ⌝ }
 {
-    if a < 4294967296 {
-        if b < 4294967296 {
-            return checked_of(limit, a * b);
+    if a != 0 {
+        if 18446744073709551615 / a < b {
+            return Checked64::Overflowed;
         }
     }
-    if a == 0 {
-        return Checked64::Fits(0);
-    }
-    if b <= limit / a {
-        return Checked64::Fits(a * b);
-    }
-    Checked64::Overflowed
+    checked_of(limit, a * b)
 }
 
 // The quotient of two numbers.
@@ -75,24 +70,64 @@ pub fn checked_rem(a: u64, b: u64) -> Answer64
     Answer64::Value(Checked64::Fits(a % b))
 }
 
-// The power of two numbers, a binary digit of the exponent at a time. The last square, which nobody needs, is not worked out.
+// The power of two numbers, a binary digit of the exponent at a time. The last square, which nobody needs, is not worked out, and
+// what is too large ends the work.
 pub fn checked_pow(limit: u64, base: u64, exponent: u64) -> Checked64
     ensures { λ r. ⌜ r ≡ checkedOf limit (base ^ exponent) ⌝ }
 {
-    let mut first = checked_of(limit, 1);
-    let mut second = checked_of(limit, base);
+    let mut first: u64 = 1;
+    let mut second = base;
     let mut left = exponent;
     while 1 < left {
-        if left % 2 == 1 {
-            first = mul_checked(limit, first, second);
+        match square(limit, first, second, left) {
+            Both::Numbers(now_first, now_second) => {
+                first = now_first;
+                second = now_second;
+                left = left / 2;
+            }
+            Both::Overflowed => {
+                return Checked64::Overflowed;
+            }
         }
-        second = mul_checked(limit, second, second);
-        left = left / 2;
     }
     if left == 1 {
-        return mul_checked(limit, first, second);
+        return checked_mul(limit, second, first);
     }
-    first
+    checked_of(limit, first)
+}
+
+// A number by itself: below 2^32 it can't wrap, and from there on no limit of 64 bits holds it.
+fn checked_square(limit: u64, n: u64) -> Checked64
+    ensures { λ r. ⌜ r ≡ checkedOf limit (n * n) ⌝ }
+{
+    if n < 4294967296 {
+        return checked_of(limit, n * n);
+    }
+    Checked64::Overflowed
+}
+
+// The second number squared, and the first with the exponent's last digit, where both are within the limit.
+fn square(limit: u64, first: u64, second: u64, left: u64) -> Both
+    requires { ⌜ (1 < left) × (0 < second → 0 < first) ⌝ }
+    ensures { λ r. ⌜ Turned limit first second left r ⌝ }
+{
+    match checked_square(limit, second) {
+        Checked64::Fits(squared) => with_digit(limit, first, second, left, squared),
+        Checked64::Overflowed => Both::Overflowed,
+    }
+}
+
+fn with_digit(limit: u64, first: u64, second: u64, left: u64, squared: u64) -> Both
+    requires { ⌜ (1 < left) × (0 < second → 0 < first) × (squared ≡ second * second) ⌝ }
+    ensures { λ r. ⌜ Turned limit first second left r ⌝ }
+{
+    if left % 2 == 0 {
+        return Both::Numbers(first, squared);
+    }
+    match checked_mul(limit, second, first) {
+        Checked64::Fits(n) => Both::Numbers(n, squared),
+        Checked64::Overflowed => Both::Overflowed,
+    }
 }
 
 // The logarithm of two numbers.
@@ -114,8 +149,8 @@ fn floor_log(base: u64, n: u64) -> u64
         return 0;
     }
     let most = n / base;
-    let mut power: u64 = 1;
-    let mut count: u64 = 0;
+    let mut power = base;
+    let mut count: u64 = 1;
     while power <= most {
         power = power * base;
         count = count + 1;

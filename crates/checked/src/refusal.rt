@@ -1,4 +1,7 @@
 // Why a call is refused. `numberOf` of specs/Paper.antt gives each case its number, from 1 to 20 in this order.
+ghost use mathlib.Core.Path.{_≡_};
+ghost use Rattle.checked.specs.Paper.{numberOf};
+
 pub enum Refusal {
     // divisor 0, both fit
     DivisorZero,
@@ -40,4 +43,34 @@ pub enum Refusal {
     ListTooShort,
     // allowance spent
     AllowanceSpent,
+}
+
+impl Refusal {
+    // The refusal's number.
+    pub fn number(self) -> u32
+        ensures { λ r. ⌜ r ≡ numberOf self ⌝ }
+    {
+        match self {
+            Refusal::DivisorZero => 1,
+            Refusal::BaseBelowTwo => 2,
+            Refusal::Overflowed => 3,
+            Refusal::QuotientTooLarge => 4,
+            Refusal::UnknownWidth => 5,
+            Refusal::LengthsDiffer => 6,
+            Refusal::ItemCount => 7,
+            Refusal::UnknownKind => 8,
+            Refusal::LiteralTooLarge => 9,
+            Refusal::TooFewOnHand => 10,
+            Refusal::HandFull => 11,
+            Refusal::SeveralLeft => 12,
+            Refusal::NoneLeft => 13,
+            Refusal::FieldEmpty => 14,
+            Refusal::BadMark => 15,
+            Refusal::BlockLength => 16,
+            Refusal::WrongCheck => 17,
+            Refusal::BadLayout => 18,
+            Refusal::ListTooShort => 19,
+            Refusal::AllowanceSpent => 20,
+        }
+    }
 }

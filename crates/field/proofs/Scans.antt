@@ -9,18 +9,21 @@ use native.Mathlib.Nat.{zero-add}
 use native.Mathlib.Omega.{arith}
 use borrow.Author.Tests.{eq-eqb, ne-eqb, lt-ltb, le-ltb, eqb-true, eqb-false, not-true, not-false}
 use lib.Dec.{eqb, ltb}
-use lib.ListN.{length}
+use lib.ListN.{length, getD}
 use Rattle.places.proofs.First.{first-within, first-holds, none-before, first-is, first-none}
+use Rattle.places.proofs.Every.{every-at}
 use Rattle.field.specs.Field.{faultAt, faulty, firstFault, NoFaultBefore}
 use Rattle.field.specs.Range.{refused, rangeOf, scanPlaces, scanOf}
+use Rattle.field.proofs.Faults.{unmarked-fits, marked-faulty}
+use Rattle.field.proofs.Joined.{unmarkedAt, unmarked}
 
 module _ (numbers marks : List ℕ) where
   -- ---- a place's test
 
-  pub fault-found : (i : ℕ) → (faultAt numbers marks i ≡ 0 → ⊥) → faulty numbers marks i ≡ true
+  fault-found : (i : ℕ) → (faultAt numbers marks i ≡ 0 → ⊥) → faulty numbers marks i ≡ true
   fault-found i n = ap not (ne-eqb (faultAt numbers marks i) 0 n)
 
-  pub no-fault : (i : ℕ) → faultAt numbers marks i ≡ 0 → faulty numbers marks i ≡ false
+  no-fault : (i : ℕ) → faultAt numbers marks i ≡ 0 → faulty numbers marks i ≡ false
   no-fault i z = ap not (eq-eqb (faultAt numbers marks i) 0 z)
 
   -- ---- the answer at each stage
@@ -49,7 +52,7 @@ module _ (numbers marks : List ℕ) where
       let p = firstFault numbers marks in
       ap (λ t. cond t (refused (faultAt numbers marks p) p) (rangeOf numbers)) (le-ltb p (length numbers) (omega arith))
 
-  -- ---- which stage it is
+  -- ---- the first fault
 
   none-before-first : NoFaultBefore numbers marks (firstFault numbers marks)
   none-before-first j h =
@@ -70,6 +73,26 @@ module _ (numbers marks : List ℕ) where
   pub first-nowhere : NoFaultBefore numbers marks (length numbers) → firstFault numbers marks ≡ length numbers
   first-nowhere b =
       first-none (faulty numbers marks) 0 (length numbers) (λ j k m. no-fault j (b j (omega arith))) ∙ zero-add (length numbers)
+
+  -- ---- by the marks alone
+
+  unmarked-before : (i : ℕ) → unmarked marks i ≡ true → NoFaultBefore numbers marks i
+  unmarked-before i u j h =
+      unmarked-fits (getD marks j 0) (getD numbers j 0) (eqb-true (getD marks j 0) 0 (every-at (unmarkedAt marks) i j u h))
+
+  module _ (e : length numbers ≡ length marks) (n : length numbers ≡ 0 → ⊥) where
+    pub at-unmarked : unmarked marks (length marks) ≡ true → scanOf numbers marks ≡ rangeOf numbers
+    at-unmarked u = at-places e n ∙ at-range (first-nowhere (unmarked-before (length numbers) (ap (unmarked marks) e ∙ u)))
+
+    -- place i is the first that is marked
+    pub at-marked
+        : (i : ℕ) → i < length marks → 0 < getD marks i 0 → unmarked marks i ≡ true → scanOf numbers marks ≡ refused (faultAt numbers marks i) i
+    at-marked i h m u =
+        let l : i < length numbers = omega arith in
+        let f = marked-faulty (getD marks i 0) (getD numbers i 0) (λ z. omega arith) in
+        at-places e n ∙ at-fault i (first-at i l f (unmarked-before i u)) l
+
+  -- ---- which stage it is
 
   pub data Stage : Type 0 where
     unequal : (length numbers ≡ length marks → ⊥) → scanOf numbers marks ≡ refused 6 0 → Stage

@@ -1,13 +1,16 @@
-// The scan of a field: every place is looked at, and the first one that can't be used ends it.
+// The scan of a field: first the marks, then the numbers, each in a loop that a compiler does several places at a time.
 use crate::types::Scan;
 use crate::width::packing_width;
 use checked::refusal::Refusal;
 ghost use mathlib.Core.Path.{_≡_};
+ghost use mathlib.Core.Bool.{true, false};
 ghost use Prim.Native.Nat.{_<_, min, max};
-ghost use lib.ListN.{length};
+ghost use lib.Dec.{eqb};
+ghost use lib.ListN.{length, getD};
 ghost use Rattle.checked.specs.Paper.{numberOf};
+ghost use Rattle.places.specs.Places.{every};
 ghost use Rattle.field.specs.Field.{faultOf};
-ghost use Rattle.field.specs.Range.{scanOf, scanPlaces};
+ghost use Rattle.field.specs.Range.{rangeOf, scanOf};
 ghost use Rattle.field.specs.Answers.{scanned};
 
 // The range of a field. The lists' lengths come first.
@@ -20,7 +23,45 @@ pub fn scan(numbers: &[u64], marks: &[u8]) -> Scan
     if numbers.len() == 0 {
         return Scan::Refused(Refusal::FieldEmpty, 0);
     }
-    places(numbers, marks)
+    if unmarked(marks) {
+        return range(numbers);
+    }
+    let place = first_marked(marks);
+    Scan::Refused(fault(marks[place], numbers[place]), place as u64)
+}
+
+// Whether every mark is 0. There is no early exit: the marks are joined by 'or', which a compiler does sixteen at a time.
+fn unmarked(marks: &[u8]) -> bool
+    ensures { λ r. ⌜ r ≡ every (λ i. eqb (getD (now (marks .entry)) i 0) 0) (length (now (marks .entry))) ⌝ }
+{
+    let mut any: u8 = 0;
+    let mut i = 0;
+    while i < marks.len() {
+        any = any | marks[i];
+        i = i + 1;
+    }
+    any == 0
+}
+
+// The least and the greatest number, with the packing width of what lies between them.
+fn range(numbers: &[u64]) -> Scan
+    requires { ⌜ 0 < length (now numbers) ⌝ }
+    ensures { λ r. ⌜ scanned r ≡ rangeOf (now (numbers .entry)) ⌝ }
+{
+    let mut least = numbers[0];
+    let mut greatest = numbers[0];
+    let mut i = 0;
+    while i < numbers.len() {
+        let number = numbers[i];
+        least = lesser(least, number);
+        greatest = larger(greatest, number);
+        i = i + 1;
+    }
+    Scan::Ranged {
+        least,
+        greatest,
+        width: packing_width(greatest - least),
+    }
 }
 
 fn lesser(a: u64, b: u64) -> u64
@@ -41,6 +82,18 @@ fn larger(a: u64, b: u64) -> u64
     a
 }
 
+// The first marked place of marks that aren't all 0.
+fn first_marked(marks: &[u8]) -> usize
+    requires { ⌜ every (λ i. eqb (getD (now marks) i 0) 0) (length (now marks)) ≡ false ⌝ }
+    ensures { λ r. ⌜ (r < length (now (marks .entry))) × (0 < getD (now (marks .entry)) r 0) × (every (λ i. eqb (getD (now (marks .entry)) i 0) 0) r ≡ true) ⌝ }
+{
+    let mut place = 0;
+    while marks[place] == 0 {
+        place = place + 1;
+    }
+    place
+}
+
 // Why a marked place ends the scan.
 fn fault(mark: u8, number: u64) -> Refusal
     requires { ⌜ 0 < mark ⌝ }
@@ -53,29 +106,4 @@ fn fault(mark: u8, number: u64) -> Refusal
         return Refusal::BadMark;
     }
     Refusal::Overflowed
-}
-
-// Place by place.
-fn places(numbers: &[u64], marks: &[u8]) -> Scan
-    requires { ⌜ (length (now numbers) ≡ length (now marks)) × (0 < length (now numbers)) ⌝ }
-    ensures { λ r. ⌜ scanned r ≡ scanPlaces (now (numbers .entry)) (now (marks .entry)) ⌝ }
-{
-    let mut least = numbers[0];
-    let mut greatest = numbers[0];
-    let mut i = 0;
-    while i < numbers.len() {
-        let number = numbers[i];
-        let mark = marks[i];
-        if mark != 0 {
-            return Scan::Refused(fault(mark, number), i as u64);
-        }
-        least = lesser(least, number);
-        greatest = larger(greatest, number);
-        i = i + 1;
-    }
-    Scan::Ranged {
-        least,
-        greatest,
-        width: packing_width(greatest - least),
-    }
 }
