@@ -1,0 +1,399 @@
+/* Times the library beside plain C and Rust, in one process on the same inputs. Before anything is timed, all of them must give
+   the same answers on these inputs. */
+#include "../include/razovinto.h"
+#include "plain.h"
+
+#include <stdbool.h>
+#include <stdio.h>
+#include <stdlib.h>
+#include <string.h>
+#include <time.h>
+
+enum { OURS, C, RUST, SIDES };
+enum { ROUNDS = 21, PAIRS = 2048, BLOCKS = 512, FIELD = 65536, RECIPES = 64, ITEMS = 255 };
+
+static uint64_t state = 20261115;
+
+/* splitmix64 */
+static uint64_t any(void)
+{
+    uint64_t z = state += UINT64_C(0x9e3779b97f4a7c15);
+    z = (z ^ (z >> 30)) * UINT64_C(0xbf58476d1ce4e5b9);
+    z = (z ^ (z >> 27)) * UINT64_C(0x94d049bb133111eb);
+    return z ^ (z >> 31);
+}
+
+/* of any magnitude, as often a short as a long one */
+static uint64_t any_magnitude(void)
+{
+    return any() >> (any() % 64);
+}
+
+static double now(void)
+{
+    struct timespec t;
+    clock_gettime(CLOCK_MONOTONIC, &t);
+    return (double)t.tv_sec * 1e9 + (double)t.tv_nsec;
+}
+
+/* ---- inputs, the same for all */
+
+static uint64_t lefts[PAIRS], rights[PAIRS];
+static uint8_t run_of_blocks[BLOCKS * 512];
+static uint64_t field_numbers[FIELD];
+static uint8_t field_marks[FIELD];
+static uint8_t kinds[RECIPES][ITEMS];
+static uint64_t numbers[RECIPES][ITEMS];
+
+static void any_pairs(void)
+{
+    for (int i = 0; i < PAIRS; i++) {
+        lefts[i] = any_magnitude();
+        rights[i] = any_magnitude();
+    }
+}
+
+/* bases and exponents of which about half have a power that fits */
+static void power_pairs(void)
+{
+    for (int i = 0; i < PAIRS; i++) {
+        unsigned bits = 1 + any() % 40;
+        lefts[i] = any() >> (64 - bits);
+        rights[i] = any() % (2 * 64 / bits + 1);
+    }
+}
+
+static void logarithm_pairs(void)
+{
+    for (int i = 0; i < PAIRS; i++) {
+        lefts[i] = 2 + (any() >> (32 + any() % 32));
+        rights[i] = any_magnitude();
+    }
+}
+
+static void seal(uint8_t *block)
+{
+    uint32_t check = 0;
+    for (uint32_t i = 0; i < 508; i++)
+        check += (i + 1) * block[i];
+    memcpy(block + 508, &check, 4);
+}
+
+/* sound blocks with no overflowed value, each with `count` values */
+static void sound_blocks(unsigned count)
+{
+    for (uint32_t b = 0; b < BLOCKS; b++) {
+        uint8_t *block = run_of_blocks + 512 * b;
+        memset(block, 0, 512);
+        memcpy(block, &b, 4);
+        block[4] = (uint8_t)count;
+        block[5] = 1;
+        for (unsigned i = 0; i < count; i++) {
+            uint64_t n = any_magnitude();
+            memcpy(block + 8 + 8 * i, &n, 8);
+        }
+        seal(block);
+    }
+}
+
+static void full_blocks(void)
+{
+    sound_blocks(55);
+}
+
+static void short_blocks(void)
+{
+    sound_blocks(1);
+}
+
+static void any_field(void)
+{
+    for (int i = 0; i < FIELD; i++)
+        field_numbers[i] = any_magnitude();
+    memset(field_marks, 0, sizeof field_marks);
+}
+
+/* every recipe is a first literal, then a literal and an operation in turn, as `literal` and `kind` give them for the i-th pair */
+static void recipes_of(uint64_t first, uint64_t (*literal)(int), uint8_t (*kind)(int))
+{
+    for (int r = 0; r < RECIPES; r++) {
+        memset(numbers[r], 0, sizeof numbers[r]);
+        memset(kinds[r], 0, sizeof kinds[r]);
+        numbers[r][0] = first;
+        for (int i = 0; 2 * i + 2 < ITEMS; i++) {
+            numbers[r][2 * i + 1] = literal(i);
+            kinds[r][2 * i + 2] = kind(i);
+        }
+    }
+}
+
+/* sums, quotients, remainders and doublings with small numbers */
+static uint64_t short_literal(int i)
+{
+    return i % 8 == 7 ? 2 : 2 + any() % 1000;
+}
+
+static uint8_t short_kind(int i)
+{
+    static const uint8_t in_turn[] = {1, 3, 1, 3, 1, 4, 1, 2};
+    return in_turn[i % 8];
+}
+
+static void short_items(void)
+{
+    recipes_of(7, short_literal, short_kind);
+}
+
+/* to the power of 3 to 20; what is left of that by 5, 6 or 7; and 2 more */
+static uint64_t power_literal(int i)
+{
+    return i % 3 == 0 ? 3 + any() % 18 : i % 3 == 1 ? 5 + any() % 3 : 2;
+}
+
+static uint8_t power_kind(int i)
+{
+    static const uint8_t in_turn[] = {5, 4, 1};
+    return in_turn[i % 3];
+}
+
+static void power_items(void)
+{
+    recipes_of(2, power_literal, power_kind);
+}
+
+/* the logarithm of a large number in what is on hand, and 2 more */
+static uint64_t logarithm_literal(int i)
+{
+    return i % 2 == 0 ? any() | UINT64_C(1) << 63 : 2;
+}
+
+static uint8_t logarithm_kind(int i)
+{
+    return i % 2 == 0 ? 6 : 1;
+}
+
+static void logarithm_items(void)
+{
+    recipes_of(2, logarithm_literal, logarithm_kind);
+}
+
+/* ---- a pass over all inputs, by one of the sides */
+
+typedef void function(void);
+static uint64_t sink;
+
+static void pass_operation(function *f)
+{
+    operation *entry = (operation *)f;
+    uint8_t result[16];
+    for (int i = 0; i < PAIRS; i++)
+        sink += entry(lefts[i], rights[i], result, sizeof result) + result[0] + result[8];
+}
+
+static void pass_run(function *f)
+{
+    runner *entry = (runner *)f;
+    uint64_t result[5];
+    for (int r = 0; r < RECIPES; r++) {
+        entry(64, kinds[r], ITEMS, numbers[r], ITEMS, UINT64_MAX, result);
+        sink += result[0] + result[3] + result[4];
+    }
+}
+
+static void pass_scan(function *f)
+{
+    scanner *entry = (scanner *)f;
+    uint64_t result[5];
+    entry(field_numbers, FIELD, field_marks, FIELD, result);
+    sink += result[2] + result[3] + result[4];
+}
+
+static void pass_read(function *f)
+{
+    reader *entry = (reader *)f;
+    uint64_t values[55], result[5];
+    uint8_t marks[55];
+    for (int b = 0; b < BLOCKS; b++) {
+        entry(run_of_blocks + 512 * b, 512, values, 55, marks, 55, result);
+        sink += result[2] + result[3] + values[0];
+    }
+}
+
+static void pass_search(function *f)
+{
+    searcher *entry = (searcher *)f;
+    uint64_t result[5];
+    entry(run_of_blocks, sizeof run_of_blocks, result);
+    sink += result[0] + result[2];
+}
+
+/* ---- all sides must agree */
+
+static void fail(const char *what, int i)
+{
+    fprintf(stderr, "bench: %s: the answers differ at input %d\n", what, i);
+    exit(1);
+}
+
+static void same_operation(const char *what, function *f, function *g)
+{
+    for (int i = 0; i < PAIRS; i++) {
+        uint8_t a[16] = {9}, b[16] = {9};
+        uint32_t r = ((operation *)f)(lefts[i], rights[i], a, 16), s = ((operation *)g)(lefts[i], rights[i], b, 16);
+        if (r != s || memcmp(a, b, 16) != 0)
+            fail(what, i);
+    }
+}
+
+static void same_run(const char *what, function *f, function *g)
+{
+    for (int r = 0; r < RECIPES; r++)
+        for (uint64_t allowance = 0; allowance < 2000; allowance += 97) {
+            uint64_t a[5], b[5];
+            ((runner *)f)(64, kinds[r], ITEMS, numbers[r], ITEMS, allowance == 1940 ? UINT64_MAX : allowance, a);
+            ((runner *)g)(64, kinds[r], ITEMS, numbers[r], ITEMS, allowance == 1940 ? UINT64_MAX : allowance, b);
+            if (memcmp(a, b, sizeof a) != 0)
+                fail(what, r);
+        }
+}
+
+static void same_scan(const char *what, function *f, function *g)
+{
+    uint64_t a[5], b[5];
+    ((scanner *)f)(field_numbers, FIELD, field_marks, FIELD, a);
+    ((scanner *)g)(field_numbers, FIELD, field_marks, FIELD, b);
+    if (memcmp(a, b, sizeof a) != 0)
+        fail(what, 0);
+}
+
+static void same_read(const char *what, function *f, function *g)
+{
+    for (int i = 0; i < BLOCKS; i++) {
+        uint64_t x[55] = {0}, y[55] = {0}, a[5], b[5];
+        uint8_t m[55] = {0}, n[55] = {0};
+        ((reader *)f)(run_of_blocks + 512 * i, 512, x, 55, m, 55, a);
+        ((reader *)g)(run_of_blocks + 512 * i, 512, y, 55, n, 55, b);
+        if (memcmp(a, b, sizeof a) != 0 || memcmp(x, y, sizeof x) != 0 || memcmp(m, n, sizeof m) != 0)
+            fail(what, i);
+    }
+}
+
+static void same_search(const char *what, function *f, function *g)
+{
+    uint64_t a[5], b[5];
+    ((searcher *)f)(run_of_blocks, sizeof run_of_blocks, a);
+    ((searcher *)g)(run_of_blocks, sizeof run_of_blocks, b);
+    if (memcmp(a, b, sizeof a) != 0)
+        fail(what, 0);
+}
+
+/* ---- the table */
+
+struct subject {
+    const char *name;
+    void (*prepare)(void);
+    void (*pass)(function *);
+    void (*same)(const char *, function *, function *);
+    function *side[SIDES];
+    const char *unit;
+    double units; /* in a pass; 0: the steps of the recipes */
+    double wanted_of_c, wanted_of_rust; /* 0: nothing is asked */
+};
+
+#define OPERATION(word) {(function *)razovinto_##word, (function *)c_##word, (function *)rust_##word}
+#define BESIDE_C(ours, theirs) {(function *)ours, (function *)theirs, NULL}
+#define BESIDE_RUST(ours, theirs) {(function *)ours, NULL, (function *)theirs}
+
+static const struct subject subjects[] = {
+    {"sum", any_pairs, pass_operation, same_operation, OPERATION(sum), "call", PAIRS, 1.25, 0},
+    {"product", any_pairs, pass_operation, same_operation, OPERATION(product), "call", PAIRS, 0, 0},
+    {"quotient", any_pairs, pass_operation, same_operation, OPERATION(quotient), "call", PAIRS, 1.25, 0},
+    {"remainder", any_pairs, pass_operation, same_operation, OPERATION(remainder), "call", PAIRS, 0, 0},
+    {"power", power_pairs, pass_operation, same_operation, OPERATION(power), "call", PAIRS, 0, 1},
+    {"logarithm", logarithm_pairs, pass_operation, same_operation, OPERATION(logarithm), "call", PAIRS, 0, 1},
+    {"runner, short items", short_items, pass_run, same_run, BESIDE_C(timed_run, c_run), "step", 0, 1.2, 0},
+    {"runner, powers", power_items, pass_run, same_run, BESIDE_C(timed_run, c_run), "step", 0, 1.2, 0},
+    {"runner, logarithms", logarithm_items, pass_run, same_run, BESIDE_C(timed_run, c_run), "step", 0, 1.2, 0},
+    {"reader, 55 values", full_blocks, pass_read, same_read, BESIDE_RUST(timed_read, rust_read), "block", BLOCKS, 0, 0.5},
+    {"reader, 1 value", short_blocks, pass_read, same_read, BESIDE_RUST(timed_read, rust_read), "block", BLOCKS, 0, 0.5},
+    {"search, 55 values", full_blocks, pass_search, same_search, BESIDE_RUST(timed_search, rust_search), "block", BLOCKS, 0, 0.6},
+    {"search, 1 value", short_blocks, pass_search, same_search, BESIDE_RUST(timed_search, rust_search), "block", BLOCKS, 0, 0.6},
+    {"scan", any_field, pass_scan, same_scan, BESIDE_RUST(timed_scan, rust_scan), "value", FIELD, 0, 1.05},
+};
+
+static double steps_of_recipes(void)
+{
+    double steps = 0;
+    for (int r = 0; r < RECIPES; r++) {
+        uint64_t result[5];
+        c_run(64, kinds[r], ITEMS, numbers[r], ITEMS, UINT64_MAX, result);
+        if (result[0] != 0)
+            fail("a recipe of the benchmark is refused", r);
+        steps += (double)result[4];
+    }
+    return steps;
+}
+
+static int ascending(const void *a, const void *b)
+{
+    double x = *(const double *)a, y = *(const double *)b;
+    return (x > y) - (x < y);
+}
+
+/* as many passes as take two thousandths of a second */
+static int passes_for(const struct subject *s, function *f)
+{
+    int passes = 1;
+    for (;;) {
+        double began = now();
+        for (int i = 0; i < passes; i++)
+            s->pass(f);
+        if (now() - began > 2e6)
+            return passes;
+        passes *= 2;
+    }
+}
+
+/* the sides take turns in each round, so that a slow stretch of the machine's meets them all; the middle round counts */
+static void measure(const struct subject *s, double middle[SIDES])
+{
+    static double times[SIDES][ROUNDS];
+    int passes = passes_for(s, s->side[OURS]);
+    for (int round = 0; round < ROUNDS; round++)
+        for (int turn = 0; turn < SIDES; turn++) {
+            int side = (round + turn) % SIDES;
+            if (s->side[side] == NULL)
+                continue;
+            double began = now();
+            for (int i = 0; i < passes; i++)
+                s->pass(s->side[side]);
+            times[side][round] = (now() - began) / passes;
+        }
+    for (int side = 0; side < SIDES; side++) {
+        if (s->side[side] == NULL)
+            continue;
+        qsort(times[side], ROUNDS, sizeof(double), ascending);
+        middle[side] = times[side][ROUNDS / 2];
+    }
+}
+
+/* a line for each subject, for bench/table.py: its name, its unit, nanoseconds a unit of each side (0 where there is none), and
+   the ratios that are wanted */
+int main(void)
+{
+    for (size_t i = 0; i < sizeof subjects / sizeof subjects[0]; i++) {
+        const struct subject *s = &subjects[i];
+        double middle[SIDES] = {0};
+        s->prepare();
+        for (int side = C; side < SIDES; side++)
+            if (s->side[side] != NULL)
+                s->same(s->name, s->side[OURS], s->side[side]);
+        double units = s->units == 0 ? steps_of_recipes() : s->units;
+        measure(s, middle);
+        printf("%s|%s", s->name, s->unit);
+        for (int side = OURS; side < SIDES; side++)
+            printf("|%.4f", middle[side] / units);
+        printf("|%g|%g\n", s->wanted_of_c, s->wanted_of_rust);
+    }
+    return sink == 1;
+}

@@ -1,0 +1,253 @@
+/* The six operations and the recipe's machine in plain C, for the benchmark alone. */
+#include "plain.h"
+
+#include <stdbool.h>
+#include <string.h>
+
+static uint32_t put(uint8_t *result, uint64_t number, bool overflowed)
+{
+    if (overflowed)
+        number = 0;
+    memcpy(result, &number, 8);
+    result[8] = overflowed;
+    memset(result + 9, 0, 7);
+    return 0;
+}
+
+uint32_t c_sum(uint64_t left, uint64_t right, uint8_t *result, size_t length)
+{
+    uint64_t n;
+    if (length < 16)
+        return 19;
+    bool overflowed = __builtin_add_overflow(left, right, &n);
+    return put(result, n, overflowed);
+}
+
+uint32_t c_product(uint64_t left, uint64_t right, uint8_t *result, size_t length)
+{
+    uint64_t n;
+    if (length < 16)
+        return 19;
+    bool overflowed = __builtin_mul_overflow(left, right, &n);
+    return put(result, n, overflowed);
+}
+
+uint32_t c_quotient(uint64_t left, uint64_t right, uint8_t *result, size_t length)
+{
+    if (length < 16)
+        return 19;
+    if (right == 0)
+        return 1;
+    return put(result, left / right, false);
+}
+
+uint32_t c_remainder(uint64_t left, uint64_t right, uint8_t *result, size_t length)
+{
+    if (length < 16)
+        return 19;
+    if (right == 0)
+        return 1;
+    return put(result, left % right, false);
+}
+
+/* whether base to the exponent overflows; otherwise it stands in *power */
+static bool power_overflows(uint64_t base, uint64_t exponent, uint64_t *power)
+{
+    uint64_t first = 1, second = base;
+    while (exponent > 1) {
+        if (exponent & 1 && __builtin_mul_overflow(first, second, &first))
+            return true;
+        if (__builtin_mul_overflow(second, second, &second))
+            return true;
+        exponent >>= 1;
+    }
+    if (exponent == 1)
+        return __builtin_mul_overflow(first, second, power);
+    *power = first;
+    return false;
+}
+
+uint32_t c_power(uint64_t base, uint64_t exponent, uint8_t *result, size_t length)
+{
+    uint64_t n = 0;
+    if (length < 16)
+        return 19;
+    bool overflowed = power_overflows(base, exponent, &n);
+    return put(result, n, overflowed);
+}
+
+static uint64_t floor_log(uint64_t base, uint64_t n)
+{
+    uint64_t power = 1, count = 0;
+    while (!__builtin_mul_overflow(power, base, &power) && power <= n)
+        count++;
+    return count;
+}
+
+uint32_t c_logarithm(uint64_t base, uint64_t argument, uint8_t *result, size_t length)
+{
+    if (length < 16)
+        return 19;
+    if (base < 2)
+        return 2;
+    return put(result, floor_log(base, argument), false);
+}
+
+/* ---- the machine */
+
+struct value {
+    bool overflowed;
+    uint64_t number;
+};
+
+static struct value checked(uint64_t limit, bool overflowed, uint64_t n)
+{
+    struct value v = {overflowed || n > limit, n};
+    if (v.overflowed)
+        v.number = 0;
+    return v;
+}
+
+static struct value sum(uint64_t limit, struct value a, struct value b)
+{
+    uint64_t n;
+    bool overflowed = __builtin_add_overflow(a.number, b.number, &n);
+    return checked(limit, overflowed || a.overflowed || b.overflowed, n);
+}
+
+static struct value product(uint64_t limit, struct value a, struct value b)
+{
+    uint64_t n;
+    if (a.overflowed || b.overflowed) {
+        bool zero = (!a.overflowed && a.number == 0) || (!b.overflowed && b.number == 0);
+        struct value v = {!zero, 0};
+        return v;
+    }
+    bool overflowed = __builtin_mul_overflow(a.number, b.number, &n);
+    return checked(limit, overflowed, n);
+}
+
+static void answer(uint64_t *result, uint64_t code, uint64_t place, struct value v, uint64_t steps)
+{
+    result[0] = code;
+    result[1] = place;
+    result[2] = v.overflowed;
+    result[3] = v.number;
+    result[4] = steps;
+}
+
+static const struct value nothing = {false, 0};
+
+/* the refusal's number and place, or 0 */
+static uint64_t shape(uint64_t width, uint64_t limit, const uint8_t *kinds, size_t kinds_length, const uint64_t *numbers,
+                      size_t numbers_length, uint64_t *place)
+{
+    *place = 0;
+    if (width != 8 && width != 16 && width != 32 && width != 64)
+        return 5;
+    if (kinds_length != numbers_length)
+        return 6;
+    if (kinds_length == 0 || kinds_length > 256)
+        return 7;
+    size_t held = 0;
+    for (size_t i = 0; i < kinds_length; i++) {
+        *place = i;
+        if (kinds[i] > 6 || (kinds[i] != 0 && numbers[i] != 0))
+            return 8;
+        if (kinds[i] == 0) {
+            if (numbers[i] > limit)
+                return 9;
+            if (held == 32)
+                return 11;
+            held++;
+        } else {
+            if (held < 2)
+                return 10;
+            held--;
+        }
+    }
+    *place = kinds_length;
+    return held > 1 ? 12 : held == 0 ? 13 : 0;
+}
+
+void c_run(uint64_t width, const uint8_t *kinds, size_t kinds_length, const uint64_t *numbers, size_t numbers_length,
+           uint64_t allowance, uint64_t *result)
+{
+    uint64_t place, limit = width == 64 ? UINT64_MAX : (UINT64_C(1) << (width & 63)) - 1;
+    uint64_t code = shape(width, limit, kinds, kinds_length, numbers, numbers_length, &place);
+    if (code != 0) {
+        answer(result, code, place, nothing, 0);
+        return;
+    }
+    struct value hand[32];
+    size_t held = 0;
+    uint64_t steps = 0;
+    for (size_t i = 0; i < kinds_length; i++) {
+        if (steps == allowance) {
+            answer(result, 20, i, nothing, steps);
+            return;
+        }
+        steps++;
+        if (kinds[i] == 0) {
+            hand[held].overflowed = false;
+            hand[held++].number = numbers[i];
+            continue;
+        }
+        struct value r = hand[--held], l = hand[--held], v = nothing;
+        if (kinds[i] > 2 && (l.overflowed || r.overflowed)) {
+            answer(result, 3, i, nothing, steps);
+            return;
+        }
+        switch (kinds[i]) {
+        case 1:
+            v = sum(limit, l, r);
+            break;
+        case 2:
+            v = product(limit, l, r);
+            break;
+        case 3:
+        case 4:
+            if (r.number == 0) {
+                answer(result, 1, i, nothing, steps);
+                return;
+            }
+            v.number = kinds[i] == 3 ? l.number / r.number : l.number % r.number;
+            break;
+        case 5: {
+            struct value second = l;
+            uint64_t exponent = r.number;
+            v.number = 1;
+            while (exponent > 0) {
+                if (steps == allowance) {
+                    answer(result, 20, i, nothing, steps);
+                    return;
+                }
+                steps++;
+                if (exponent & 1)
+                    v = product(limit, v, second);
+                second = product(limit, second, second);
+                exponent >>= 1;
+            }
+            break;
+        }
+        default: {
+            uint64_t left = r.number;
+            if (l.number < 2) {
+                answer(result, 2, i, nothing, steps);
+                return;
+            }
+            while (left >= l.number) {
+                if (steps == allowance) {
+                    answer(result, 20, i, nothing, steps);
+                    return;
+                }
+                steps++;
+                left /= l.number;
+                v.number++;
+            }
+        }
+        }
+        hand[held++] = v;
+    }
+    answer(result, 0, 0, hand[0], steps);
+}

@@ -1,0 +1,185 @@
+//! The six operations by Rust's checked ones, and scan, reader and search by iterators, for the benchmark alone.
+use std::slice::{from_raw_parts, from_raw_parts_mut};
+
+// ---- the six operations
+
+/// The 16 bytes of a checked number, and 0.
+unsafe fn put(result: *mut u8, number: Option<u64>) -> u32 {
+    let result = unsafe { from_raw_parts_mut(result, 16) };
+    result[..8].copy_from_slice(&number.unwrap_or(0).to_le_bytes());
+    result[8] = number.is_none() as u8;
+    result[9..].fill(0);
+    0
+}
+
+#[no_mangle]
+pub unsafe extern "C" fn rust_sum(left: u64, right: u64, result: *mut u8, length: usize) -> u32 {
+    if length < 16 {
+        return 19;
+    }
+    unsafe { put(result, left.checked_add(right)) }
+}
+
+#[no_mangle]
+pub unsafe extern "C" fn rust_product(left: u64, right: u64, result: *mut u8, length: usize) -> u32 {
+    if length < 16 {
+        return 19;
+    }
+    unsafe { put(result, left.checked_mul(right)) }
+}
+
+#[no_mangle]
+pub unsafe extern "C" fn rust_quotient(left: u64, right: u64, result: *mut u8, length: usize) -> u32 {
+    if length < 16 {
+        return 19;
+    }
+    match left.checked_div(right) {
+        None => 1,
+        quotient => unsafe { put(result, quotient) },
+    }
+}
+
+#[no_mangle]
+pub unsafe extern "C" fn rust_remainder(left: u64, right: u64, result: *mut u8, length: usize) -> u32 {
+    if length < 16 {
+        return 19;
+    }
+    match left.checked_rem(right) {
+        None => 1,
+        remainder => unsafe { put(result, remainder) },
+    }
+}
+
+#[no_mangle]
+pub unsafe extern "C" fn rust_power(base: u64, exponent: u64, result: *mut u8, length: usize) -> u32 {
+    if length < 16 {
+        return 19;
+    }
+    // checked_pow takes an exponent of 32 bits: a larger one fits only with the bases 0 and 1
+    let power = match u32::try_from(exponent) {
+        Ok(exponent) => base.checked_pow(exponent),
+        Err(_) => (base < 2).then_some(base),
+    };
+    unsafe { put(result, power) }
+}
+
+#[no_mangle]
+pub unsafe extern "C" fn rust_logarithm(base: u64, argument: u64, result: *mut u8, length: usize) -> u32 {
+    if length < 16 {
+        return 19;
+    }
+    if base < 2 {
+        return 2;
+    }
+    unsafe { put(result, Some(argument.checked_ilog(base).unwrap_or(0) as u64)) }
+}
+
+// ---- fields
+
+#[no_mangle]
+pub unsafe extern "C" fn rust_scan(numbers: *const u64, numbers_length: usize, marks: *const u8, marks_length: usize, result: *mut u64) {
+    let numbers = unsafe { from_raw_parts(numbers, numbers_length) };
+    let marks = unsafe { from_raw_parts(marks, marks_length) };
+    unsafe { *(result as *mut [u64; 5]) = scan(numbers, marks) }
+}
+
+fn scan(numbers: &[u64], marks: &[u8]) -> [u64; 5] {
+    if numbers.len() != marks.len() {
+        return [6, 0, 0, 0, 0];
+    }
+    if numbers.is_empty() {
+        return [14, 0, 0, 0, 0];
+    }
+    if let Some(place) = marks.iter().position(|&mark| mark != 0) {
+        let code = if marks[place] == 1 && numbers[place] == 0 { 3 } else { 15 };
+        return [code, place as u64, 0, 0, 0];
+    }
+    let (least, greatest) = numbers.iter().fold((u64::MAX, 0), |(least, greatest), &n| (least.min(n), greatest.max(n)));
+    let width = (greatest - least).checked_ilog2().unwrap_or(0) + 1;
+    [0, 0, least, greatest, width as u64]
+}
+
+// ---- blocks
+
+fn number(block: &[u8], place: usize) -> u64 {
+    u64::from_le_bytes(block[8 + 8 * place..16 + 8 * place].try_into().unwrap())
+}
+
+/// The refusal's number, or 0.
+fn fault(block: &[u8]) -> u64 {
+    if block.len() != 512 {
+        return 16;
+    }
+    let sum: u32 = block[..508].iter().zip(1u32..).map(|(&byte, weight)| weight * byte as u32).sum();
+    if sum != u32::from_le_bytes(block[508..].try_into().unwrap()) {
+        return 17;
+    }
+    let count = block[4] as usize;
+    if count > 55 || block[5] != 1 || block[6] != 0 || block[7] != 0 {
+        return 18;
+    }
+    if block[8 + 8 * count..448].iter().any(|&byte| byte != 0) || block[448 + count..508].iter().any(|&byte| byte != 0) {
+        return 18;
+    }
+    let badly_marked = |(place, &mark): (usize, &u8)| mark > 1 || (mark == 1 && number(block, place) != 0);
+    if block[448..448 + count].iter().enumerate().any(badly_marked) {
+        return 18;
+    }
+    0
+}
+
+#[no_mangle]
+pub unsafe extern "C" fn rust_read(
+    block: *const u8,
+    length: usize,
+    numbers: *mut u64,
+    numbers_length: usize,
+    marks: *mut u8,
+    marks_length: usize,
+    result: *mut u64,
+) {
+    let block = unsafe { from_raw_parts(block, length) };
+    let numbers = unsafe { from_raw_parts_mut(numbers, numbers_length) };
+    let marks = unsafe { from_raw_parts_mut(marks, marks_length) };
+    unsafe { *(result as *mut [u64; 5]) = read(block, numbers, marks) }
+}
+
+fn read(block: &[u8], numbers: &mut [u64], marks: &mut [u8]) -> [u64; 5] {
+    let code = fault(block);
+    if code != 0 {
+        return [code, 0, 0, 0, 0];
+    }
+    let count = block[4] as usize;
+    if numbers.len() < count || marks.len() < count {
+        return [19, 0, 0, 0, 0];
+    }
+    for (into, bytes) in numbers[..count].iter_mut().zip(block[8..].chunks_exact(8)) {
+        *into = u64::from_le_bytes(bytes.try_into().unwrap());
+    }
+    marks[..count].copy_from_slice(&block[448..448 + count]);
+    let own = u32::from_le_bytes(block[..4].try_into().unwrap());
+    [0, 0, own as u64, count as u64, 0]
+}
+
+#[no_mangle]
+pub unsafe extern "C" fn rust_search(run: *const u8, length: usize, result: *mut u64) {
+    let run = unsafe { from_raw_parts(run, length) };
+    unsafe { *(result as *mut [u64; 5]) = search(run) }
+}
+
+fn search(run: &[u8]) -> [u64; 5] {
+    if run.len() % 512 != 0 {
+        return [16, 0, 0, 0, 0];
+    }
+    for (position, block) in run.chunks_exact(512).enumerate() {
+        let code = fault(block);
+        if code != 0 {
+            return [code, position as u64, 0, 0, 0];
+        }
+        let count = block[4] as usize;
+        if let Some(place) = block[448..448 + count].iter().position(|&mark| mark == 1) {
+            return [0, 0, 1, position as u64, place as u64];
+        }
+    }
+    [0; 5]
+}

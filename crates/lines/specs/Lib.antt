@@ -1,0 +1,2 @@
+-- The definitions of this crate: what is put into a line.
+pub mod Line

@@ -1,0 +1,5 @@
+-- Laws on what an entry returns and writes. `Promises` states what the entries promise, and `Unique` that the contract leaves one answer and one content of the slice.
+pub mod Slices
+pub mod Promises
+pub mod Unique
+pub mod Examples

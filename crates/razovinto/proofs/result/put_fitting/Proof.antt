@@ -1,0 +1,120 @@
+-- `result::put_fitting` meets its contract: sixteen stores, one after the other, are the list that is stored.
+-- Assumes nothing.
+use mathlib.Core.Path.{refl}
+use lib.ListN.{length-set}
+use lib.Seq.{sets-eq}
+use Rattle.layout.specs.Bytes.{bytesOf}
+use Rattle.razovinto.specs.Entry.{resultBytes}
+use borrow.Author.Needs.{needs}
+use Rattle.razovinto.proofs.result.put_fitting.Statement.{statement}
+use Rattle.razovinto.proofs.result.put_fitting.Tie as tie
+
+cast-result : tie.Need-cast-result
+cast-result c = search needs
+
+slice-write-result : tie.Need-slice-write-result
+slice-write-result c = search needs
+
+cast-result-2 : tie.Need-cast-result-2
+cast-result-2 c = search needs
+
+slice-write-result-2 : tie.Need-slice-write-result-2
+slice-write-result-2 c = simp length-set (search needs)
+
+cast-result-3 : tie.Need-cast-result-3
+cast-result-3 c = search needs
+
+slice-write-result-3 : tie.Need-slice-write-result-3
+slice-write-result-3 c = simp length-set (search needs)
+
+cast-result-4 : tie.Need-cast-result-4
+cast-result-4 c = search needs
+
+slice-write-result-4 : tie.Need-slice-write-result-4
+slice-write-result-4 c = simp length-set (search needs)
+
+cast-result-5 : tie.Need-cast-result-5
+cast-result-5 c = search needs
+
+slice-write-result-5 : tie.Need-slice-write-result-5
+slice-write-result-5 c = simp length-set (search needs)
+
+cast-result-6 : tie.Need-cast-result-6
+cast-result-6 c = search needs
+
+slice-write-result-6 : tie.Need-slice-write-result-6
+slice-write-result-6 c = simp length-set (search needs)
+
+cast-result-7 : tie.Need-cast-result-7
+cast-result-7 c = search needs
+
+slice-write-result-7 : tie.Need-slice-write-result-7
+slice-write-result-7 c = simp length-set (search needs)
+
+cast-result-8 : tie.Need-cast-result-8
+cast-result-8 c = search needs
+
+slice-write-result-8 : tie.Need-slice-write-result-8
+slice-write-result-8 c = simp length-set (search needs)
+
+slice-write-result-9 : tie.Need-slice-write-result-9
+slice-write-result-9 c = simp length-set (search needs)
+
+slice-write-result-10 : tie.Need-slice-write-result-10
+slice-write-result-10 c = simp length-set (search needs)
+
+slice-write-result-11 : tie.Need-slice-write-result-11
+slice-write-result-11 c = simp length-set (search needs)
+
+slice-write-result-12 : tie.Need-slice-write-result-12
+slice-write-result-12 c = simp length-set (search needs)
+
+slice-write-result-13 : tie.Need-slice-write-result-13
+slice-write-result-13 c = simp length-set (search needs)
+
+slice-write-result-14 : tie.Need-slice-write-result-14
+slice-write-result-14 c = simp length-set (search needs)
+
+slice-write-result-15 : tie.Need-slice-write-result-15
+slice-write-result-15 c = simp length-set (search needs)
+
+slice-write-result-16 : tie.Need-slice-write-result-16
+slice-write-result-16 c = simp length-set (search needs)
+
+same-length : tie.Need-same-length
+same-length c = simp length-set refl
+
+returns : tie.Need-returns
+unfolding bytesOf
+returns c = let g = c .args in sets-eq (resultBytes (g .number) 0) (g .result .now) 0 (c .pre)
+
+pub put-fitting-spec : {M : Type 1} → statement M
+put-fitting-spec =
+    tie.close
+    (tie.spec
+    cast-result
+    slice-write-result
+    cast-result-2
+    slice-write-result-2
+    cast-result-3
+    slice-write-result-3
+    cast-result-4
+    slice-write-result-4
+    cast-result-5
+    slice-write-result-5
+    cast-result-6
+    slice-write-result-6
+    cast-result-7
+    slice-write-result-7
+    cast-result-8
+    slice-write-result-8
+    slice-write-result-9
+    slice-write-result-10
+    slice-write-result-11
+    slice-write-result-12
+    slice-write-result-13
+    slice-write-result-14
+    slice-write-result-15
+    slice-write-result-16
+    same-length
+    returns)

@@ -1,0 +1,32 @@
+-- What an entry for C returns and what the lent slice has afterwards. An operation's answer is in numbers: the refusal's number, or 0 with the value's mark and number.
+-- Assumes nothing.
+use mathlib.Core.Bool.{cond}
+use mathlib.Core.List.{List, [], _∷_, _++_}
+use Prim.Native.Nat.{ℕ, _+_, _*_}
+use lib.Dec.{eqb, ltb}
+use lib.ListN.{length, drop}
+use Rattle.checked.specs.Value.{checkedOf}
+use Rattle.checked.specs.Paper.{Paper, given}
+use Rattle.layout.specs.Bytes.{bytesOf}
+
+-- ---- the answers that have no page of their own among the checked numbers
+
+abbrev pub sumsOf : ℕ → ℕ → ℕ → Paper
+sumsOf M l r = given (checkedOf M (l + r))
+
+abbrev pub productsOf : ℕ → ℕ → ℕ → Paper
+productsOf M l r = given (checkedOf M (l * r))
+
+-- ---- the slice
+
+-- the 16 bytes of a value: its number, the lowest byte first, its mark, and seven zeros
+abbrev pub resultBytes : ℕ → ℕ → List ℕ
+resultBytes number mark = bytesOf 8 number ++ (mark ∷ 0 ∷ 0 ∷ 0 ∷ 0 ∷ 0 ∷ 0 ∷ 0 ∷ [])
+
+-- a slice shorter than 16 bytes is refused before anything else is looked at
+unfoldable pub returned : Paper → List ℕ → ℕ
+returned p result = cond (ltb (length result) 16) 19 (p .code)
+
+-- with 0 the 16 bytes are written and later ones stay; otherwise all stay
+unfoldable pub afterwards : Paper → List ℕ → List ℕ
+afterwards p result = cond (eqb (returned p result) 0) (resultBytes (p .number) (p .mark) ++ drop 16 result) result

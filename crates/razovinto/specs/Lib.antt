@@ -1,0 +1,2 @@
+-- The definitions of this crate: what an entry returns and what it writes.
+pub mod Entry

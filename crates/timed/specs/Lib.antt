@@ -1,0 +1,2 @@
+-- The definitions of this crate: an answer's five numbers.
+pub mod Five
