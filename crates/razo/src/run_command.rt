@@ -1,0 +1,167 @@
+// A recipe as words of the command line.
+use crate::show::show;
+use crate::text::complain;
+use crate::text::complain_too_long;
+use crate::text::first;
+use crate::words::Word;
+use crate::words::word_of;
+use lines::put::number;
+use lines::put::word;
+use recipe::run::run;
+
+// A number that was asked for, or nothing.
+enum Given {
+    Number(u64),
+    Nothing,
+}
+
+// An item of a recipe, or nothing.
+enum Item {
+    Item { kind: u8, number: u64 },
+    Nothing,
+}
+
+fn complain_too_large(which: &[u8], said: &[u8]) {
+    complain(which, said, b", is too large: numbers are below 2^64");
+}
+
+// A number, or a line that says why it is none.
+fn number_in(which: &[u8], said: &[u8]) -> Given {
+    match word_of(said) {
+        Word::Number(n) => return Given::Number(n),
+        Word::TooLarge => complain_too_large(which, said),
+        _ => complain(which, said, b", is not a number"),
+    }
+    Given::Nothing
+}
+
+// The number that a word of the command line is.
+fn number_at(index: usize, which: &[u8]) -> Given {
+    let mut space = io::buffer();
+    let said: &mut [u8] = &mut space;
+    let length = os::arg(index, said);
+    if os::errno() != 0 {
+        complain_too_long(which, said);
+        return Given::Nothing;
+    }
+    number_in(which, first(said, length))
+}
+
+// An item, or a line that says why the word is none.
+fn item_in(which: &[u8], said: &[u8]) -> Item {
+    match word_of(said) {
+        Word::Number(n) => return Item::Item { kind: 0, number: n },
+        Word::Operation(kind) => return Item::Item {
+            kind: kind,
+            number: 0,
+        },
+        Word::TooLarge => complain_too_large(which, said),
+        Word::Neither => complain(which, said, b", is neither a number nor an operation"),
+    }
+    Item::Nothing
+}
+
+// The item that a word of the command line is.
+fn item_named(index: usize, which: &[u8]) -> Item {
+    let mut space = io::buffer();
+    let said: &mut [u8] = &mut space;
+    let length = os::arg(index, said);
+    if os::errno() != 0 {
+        complain_too_long(which, said);
+        return Item::Nothing;
+    }
+    item_in(which, first(said, length))
+}
+
+// The item at a place of the recipe, which is the word at `index` of the command line.
+fn item_at(place: usize, index: usize) -> Item {
+    let mut space = [0u8; 64];
+    let which: &mut [u8] = &mut space;
+    let mut at = word(which, 0, b"word ");
+    at = number(which, at, place as u64);
+    at = word(which, at, b", ");
+    item_named(index, first(which, at))
+}
+
+// Puts an item into the lists, or answers that there is none.
+fn take_item(place: usize, kinds: &mut [u8], numbers: &mut [u64]) -> bool {
+    if kinds.len() <= place {
+        return false;
+    }
+    if numbers.len() <= place {
+        return false;
+    }
+    match item_at(place, place + 4) {
+        Item::Item { kind, number } => {
+            kinds[place] = kind;
+            numbers[place] = number;
+            true
+        }
+        Item::Nothing => false,
+    }
+}
+
+fn take_items(count: usize, kinds: &mut [u8], numbers: &mut [u64]) -> bool {
+    let mut place = 0;
+    while place < count {
+        if !take_item(place, kinds, numbers) {
+            return false;
+        }
+        place = place + 1;
+    }
+    true
+}
+
+fn run_items(width: u64, allowance: u64, kinds: &[u8], numbers: &[u64], count: usize) {
+    if kinds.len() < count {
+        return;
+    }
+    if numbers.len() < count {
+        return;
+    }
+    show(
+        run(width, &kinds[..count], &numbers[..count], allowance),
+        kinds,
+    );
+}
+
+// A recipe has at most 256 items, so a 257th is taken for the library to refuse, and none after it is looked at.
+fn item_count() -> usize {
+    let words = os::arg_count();
+    if words < 4 {
+        return 0;
+    }
+    if 257 < words - 4 {
+        return 257;
+    }
+    words - 4
+}
+
+fn run_words(width: u64, allowance: u64) {
+    let mut kinds_space = [0u8; 257];
+    let kinds: &mut [u8] = &mut kinds_space;
+    let mut numbers_space = [0u64; 257];
+    let numbers: &mut [u64] = &mut numbers_space;
+    let count = item_count();
+    if take_items(count, kinds, numbers) {
+        run_items(width, allowance, kinds, numbers, count);
+    }
+}
+
+pub(crate) fn run_command() {
+    if os::arg_count() < 4 {
+        complain(
+            b"",
+            b"run",
+            b" takes WIDTH, ALLOWANCE and the words of a recipe",
+        );
+        return;
+    }
+    let Given::Number(width) = number_at(2, b"WIDTH, ") else {
+        return;
+    };
+    let Given::Number(allowance) = number_at(3, b"ALLOWANCE, ") else {
+        return;
+    };
+    run_words(width, allowance);
+}

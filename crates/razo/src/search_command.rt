@@ -1,0 +1,107 @@
+// The search of a file of blocks, part by part.
+use crate::file::Filled;
+use crate::file::count_on;
+use crate::file::fill;
+use crate::file::in_whole_blocks;
+use crate::reason::reason;
+use crate::text::after;
+use crate::text::fail;
+use crate::text::first;
+use crate::text::put_blocks;
+use crate::text::write_out;
+use checked::refusal::Refusal;
+use lines::put::number;
+use lines::put::word;
+use search::search::search;
+use search::types::Found;
+
+// Whether the search goes on, and then how many blocks lie behind it.
+enum Search {
+    Behind(u64),
+    Over,
+}
+
+fn say_overflowed(position: u64, place: u64) {
+    let mut space = [0u8; 256];
+    let line: &mut [u8] = &mut space;
+    let mut at = word(line, 0, b"overflowed: block ");
+    at = number(line, at, position);
+    at = word(line, at, b", place ");
+    at = number(line, at, place);
+    at = word(line, at, b"\n");
+    write_out(line, at);
+}
+
+fn say_bad(position: u64, refusal: Refusal) {
+    let mut space = [0u8; 256];
+    let line: &mut [u8] = &mut space;
+    let mut at = word(line, 0, b"bad block ");
+    at = number(line, at, position);
+    at = word(line, at, b": ");
+    at = reason(line, at, refusal);
+    at = word(line, at, b"\n");
+    write_out(line, at);
+}
+
+fn say_none(blocks: u64) {
+    let mut space = [0u8; 256];
+    let line: &mut [u8] = &mut space;
+    let mut at = word(line, 0, b"none overflowed in ");
+    at = put_blocks(line, at, blocks);
+    at = word(line, at, b"\n");
+    write_out(line, at);
+}
+
+// A run of blocks, with so many blocks before it.
+fn search_run(run: &[u8], behind: u64) -> Search {
+    match search(run) {
+        Found::Overflowed { position, place } => say_overflowed(count_on(behind, position), place),
+        Found::Refused(refusal, position) => say_bad(count_on(behind, position), refusal),
+        Found::None => return Search::Behind(count_on(behind, run.len() as u64 / 512)),
+    }
+    Search::Over
+}
+
+// The last part. What is left over after its whole blocks is a run of its own, and a bad one unless it is empty.
+fn search_last(bytes: &[u8], behind: u64) {
+    let whole = in_whole_blocks(bytes.len());
+    let Search::Behind(before_rest) = search_run(first(bytes, whole), behind) else {
+        return;
+    };
+    let Search::Behind(all) = search_run(after(bytes, whole), before_rest) else {
+        return;
+    };
+    say_none(all);
+}
+
+// What came before a read failed. A block that the failure cut is not looked at.
+fn search_cut(name: &[u8], bytes: &[u8], behind: u64) {
+    let whole = in_whole_blocks(bytes.len());
+    if let Search::Behind(_) = search_run(first(bytes, whole), behind) {
+        fail(name);
+    }
+}
+
+fn search_part(fd: i32, name: &[u8], part: &mut [u8], behind: u64) -> Search {
+    match fill(fd, part) {
+        Filled::Full => return search_run(part, behind),
+        Filled::Ended(filled) => search_last(first(part, filled), behind),
+        Filled::Failed(filled) => search_cut(name, first(part, filled), behind),
+    }
+    Search::Over
+}
+
+// Nothing says that a file ends, so the parts are counted down from a number that no file uses up.
+pub(crate) fn search_parts(fd: i32, name: &[u8]) {
+    let mut space = io::large_buffer();
+    let part: &mut [u8] = &mut space;
+    let mut behind: u64 = 0;
+    let mut turns: u64 = 18446744073709551615;
+    while 0 < turns {
+        match search_part(fd, name, part, behind) {
+            Search::Behind(now_behind) => behind = now_behind,
+            Search::Over => return,
+        }
+        turns = turns - 1;
+    }
+}

@@ -1,0 +1,82 @@
+// The reading of words: numbers and the names of operations.
+use crate::text::same;
+use checked::types::Checked64;
+
+// What a word says. An operation has its kind's code.
+pub(crate) enum Word {
+    Number(u64),
+    TooLarge,
+    Operation(u8),
+    Neither,
+}
+
+// The kind of the operation that a word names, or 0.
+fn kind_of(said: &[u8]) -> u8 {
+    if same(said, b"sum") {
+        return 1;
+    }
+    if same(said, b"product") {
+        return 2;
+    }
+    if same(said, b"quotient") {
+        return 3;
+    }
+    if same(said, b"remainder") {
+        return 4;
+    }
+    if same(said, b"power") {
+        return 5;
+    }
+    if same(said, b"logarithm") {
+        return 6;
+    }
+    0
+}
+
+fn is_decimal(said: &[u8]) -> bool {
+    let mut i = 0;
+    while i < said.len() {
+        let byte = said[i];
+        if byte < b'0' {
+            return false;
+        }
+        if b'9' < byte {
+            return false;
+        }
+        i = i + 1;
+    }
+    0 < said.len()
+}
+
+// One digit more. A number that is too large for 64 bits is overflowed, as everywhere.
+fn with_digit(number: Checked64, byte: u8) -> Checked64 {
+    if byte < b'0' {
+        return number;
+    }
+    number.mul_value(10).add_value((byte - b'0') as u64)
+}
+
+// The number that decimal digits stand for.
+fn value_of(digits: &[u8]) -> Checked64 {
+    let mut number = Checked64::Fits(0);
+    let mut i = 0;
+    while i < digits.len() {
+        number = with_digit(number, digits[i]);
+        i = i + 1;
+    }
+    number
+}
+
+pub(crate) fn word_of(said: &[u8]) -> Word {
+    let kind = kind_of(said);
+    if kind != 0 {
+        return Word::Operation(kind);
+    }
+    if !is_decimal(said) {
+        return Word::Neither;
+    }
+    match value_of(said) {
+        Checked64::Fits(number) => Word::Number(number),
+        Checked64::Overflowed => Word::TooLarge,
+    }
+}

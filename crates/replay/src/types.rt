@@ -1,0 +1,25 @@
+// What a case comes to.
+
+// The most elements that a list of a case has. The lists that cases are given to use have as many.
+pub const MOST_ELEMENTS: usize = 4096;
+
+// The most bytes that a run of blocks has.
+pub const MOST_BYTES: usize = 65536;
+
+// Why a case is malformed.
+pub enum Fault {
+    // the input ends within it
+    CutShort,
+    // a list or a run of blocks past the sizes
+    TooLarge,
+    // first byte that no row has
+    UnknownRow,
+    // width, kind, mark or number that the row doesn't allow
+    NotAllowed,
+}
+
+// A case whose line is put, with how many of its bytes were used and the place after the line; or why it is malformed.
+pub enum Case {
+    Answered { used: usize, at: usize },
+    Malformed(Fault),
+}

@@ -1,0 +1,705 @@
+"""Makers of cases, random ones and ones at the boundaries. Each takes a Dice, so that a seed gives the same cases again."""
+import random
+import struct
+from math import isqrt
+
+import model
+from model import LITERAL, LOGARITHM, OVERFLOWED, POWER, PRODUCT, QUOTIENT, SUM, WIDTHS, limit
+from rows import LIST, RUN, Fit, Operation, Plain, Read, Run, Scan, Search, Signed
+
+MOST = limit(64)
+ODD_WIDTHS = (0, 7, 8, 9, 16, 32, 63, 64, 255)
+
+
+class Dice:
+    """Random choices that stand on the generator's bits alone, so that they are the same in every Python."""
+
+    def __init__(self, seed):
+        self.bits = random.Random(seed).getrandbits
+
+    def below(self, n):
+        return self.bits(64) % n
+
+    def between(self, low, high):
+        return low + self.below(high - low + 1)
+
+    def chance(self, percent):
+        return self.below(100) < percent
+
+    def pick(self, choices):
+        return choices[self.below(len(choices))]
+
+    def some_bytes(self, n):
+        return bytes(self.bits(8) for _ in range(n))
+
+    def shuffled(self, things):
+        things = list(things)
+        for i in range(len(things) - 1, 0, -1):
+            j = self.below(i + 1)
+            things[i], things[j] = things[j], things[i]
+        return things
+
+
+# Numbers
+
+
+def edges(width):
+    """Numbers of a width at which something changes."""
+    most, root = limit(width), isqrt(limit(width))
+    return (0, 1, 2, 3, 4, 7, 10, 16, root - 1, root, root + 1, most // 2, most // 2 + 1, most - 1, most)
+
+
+def some_number(dice, width):
+    """A number of a width: an edge, a small one, one beside a power of 2, or one with any count of digits."""
+    way = dice.below(5)
+    if way == 0:
+        return dice.pick(edges(width))
+    if way == 1:
+        return dice.below(12)
+    digits = dice.below(width + 1)
+    if way == 2:
+        return min(max(2**digits + dice.between(-1, 1), 0), limit(width))
+    return dice.below(2**digits)
+
+
+def some_value(dice, width):
+    return OVERFLOWED if dice.chance(8) else some_number(dice, width)
+
+
+def root_of(exponent):
+    """The largest base whose power fits 64 bits, for an exponent of at least 1."""
+    low, high = 1, 2**64
+    while high - low > 1:
+        middle = (low + high) // 2
+        if model.power_fits(middle, exponent):
+            low = middle
+        else:
+            high = middle
+    return low
+
+
+# Single operations
+
+
+def operation_edges(widths=WIDTHS, numbers=edges):
+    """Every kind on every pair of edges, overflowed ones too."""
+    for width in widths:
+        values = sorted(set(numbers(width))) + [OVERFLOWED]
+        for kind in range(SUM, LOGARITHM + 1):
+            for left in values:
+                for right in values:
+                    yield Operation(width, kind, left, right)
+
+
+def some_operation(dice):
+    return some_operation_of(dice, dice.pick(WIDTHS), dice.between(SUM, LOGARITHM), some_value)
+
+
+def some_operation_of(dice, width, kind, operand):
+    """A case of one kind at one width; `operand` makes its operands where they are not close to a limit."""
+    if kind >= POWER and dice.chance(50):
+        return near_power(dice, width, kind)
+    if kind <= PRODUCT and dice.chance(40):
+        return near_limit(dice, width, kind)
+    return Operation(width, kind, operand(dice, width), operand(dice, width))
+
+
+def near_power(dice, width, kind):
+    """A power that is close to M, or a logarithm of a number beside a power."""
+    most = limit(width)
+    base = max(2, min(some_number(dice, width), isqrt(most)) if dice.chance(80) else some_number(dice, width))
+    highest = model.logarithm(base, most)
+    if kind == POWER:
+        return Operation(width, kind, base, max(0, highest + dice.between(-1, 2)))
+    argument = base ** dice.between(0, highest) + dice.between(-1, 1)
+    return Operation(width, kind, base, min(argument, most))
+
+
+def near_limit(dice, width, kind):
+    """A sum or a product that is M, or close to it."""
+    most = limit(width)
+    left = max(1, some_number(dice, width))
+    right = most - left if kind == SUM else most // left
+    return Operation(width, kind, left, min(max(0, right + dice.between(-1, 1)), most))
+
+
+def every_operation_at_8():
+    values = [*range(256), OVERFLOWED]
+    return (Operation(8, kind, left, right) for kind in range(SUM, LOGARITHM + 1) for left in values for right in values)
+
+
+# Signed numbers
+
+
+def signed_edges(width):
+    low, high = -(2 ** (width - 1)), 2 ** (width - 1) - 1
+    return (low, low + 1, low // 2, -8, -7, -3, -2, -1, 0, 1, 2, 3, 7, 8, high // 2, high - 1, high)
+
+
+def every_signed_edge(numbers=signed_edges):
+    for width in WIDTHS:
+        for remainder in (0, 1):
+            for a in numbers(width):
+                for b in numbers(width):
+                    yield Signed(width, remainder, a, b)
+
+
+def some_signed_number(dice, width):
+    if dice.chance(30):
+        return dice.pick(signed_edges(width))
+    number = dice.below(2 ** dice.below(width))
+    return -number - 1 if dice.chance(50) else number
+
+
+def some_signed(dice):
+    width = dice.pick(WIDTHS)
+    a, b = some_signed_number(dice, width), some_signed_number(dice, width)
+    if dice.chance(30) and abs(b) > 1:
+        # A multiple of b, or a neighbour of one.
+        a = min(max(a // b * b + dice.between(-1, 1), -(2 ** (width - 1))), 2 ** (width - 1) - 1)
+    return Signed(width, dice.below(2), a, b)
+
+
+def every_signed_at_8():
+    numbers = range(-128, 128)
+    return (Signed(8, remainder, a, b) for remainder in (0, 1) for a in numbers for b in numbers)
+
+
+# Power-fit and plain numbers
+
+
+def fit_edges():
+    """Around the largest base of each exponent, below and past the table too, and huge exponents."""
+    for exponent in (*range(71), 127, 128, 255, 256, 2**31, 2**32 - 1, 2**32, 2**32 + 2, 2**63, MOST - 1, MOST):
+        root = root_of(exponent) if exponent else MOST
+        for base in sorted({0, 1, 2, 3, root - 1, root, min(root + 1, MOST), MOST}):
+            yield Fit(base, exponent)
+
+
+def some_fit(dice):
+    exponent = dice.below(72) if dice.chance(80) else some_number(dice, 64)
+    if exponent and dice.chance(50):
+        return Fit(max(0, min(root_of(exponent) + dice.between(-1, 1), MOST)), exponent)
+    return Fit(some_number(dice, 64), exponent)
+
+
+def plain_edges():
+    for width in WIDTHS:
+        for value in (*sorted(set(edges(width))), OVERFLOWED):
+            yield Plain(width, value)
+
+
+def some_plain(dice):
+    width = dice.pick(WIDTHS)
+    return Plain(width, some_value(dice, width))
+
+
+# Recipes
+
+
+def recipe(words):
+    """Kinds and numbers of a recipe in words."""
+    kinds, numbers = [], []
+    for word in words.split():
+        literal = word not in model.KIND_WORDS
+        kinds.append(LITERAL if literal else model.KIND_WORDS.index(word))
+        numbers.append(int(word) if literal else 0)
+    return bytes(kinds), tuple(numbers)
+
+
+SMALL_RUNS = (
+    "255 1 sum",
+    "255 1 sum 0 product",
+    "0 255 1 sum product",
+    "7 0 quotient",
+    "255 1 sum 0 quotient",
+    "2 7 power",
+    "2 8 power",
+    "16 1 power",
+    "0 0 power",
+    "2 255 logarithm",
+    "10 0 logarithm",
+    "1 5 logarithm",
+)
+# Width and recipe: powers, logarithms and overflowed values within one another; the last is refused late.
+RICH_RUNS = (
+    (8, "3 2 5 power 7 remainder power 2 200 logarithm 1 power product 255 255 product 0 product sum"),
+    (16, "2 15 power 2 product 0 product 3 10 power 3 65535 logarithm sum sum"),
+    (32, "10 4294967295 logarithm 2 31 power 7 quotient remainder 0 4294967295 power sum 1 sum"),
+    (64, "2 10 18446744073709551615 logarithm power 2 3 40 power logarithm 18446744073709551615 1 sum 0 product sum sum"),
+    (64, "0 0 power 18446744073709551615 power 5 1 sum logarithm"),
+)
+
+
+def total_steps(width, kinds, numbers):
+    return model.run(width, kinds, numbers, MOST).steps
+
+
+def every_allowance(width, words):
+    kinds, numbers = recipe(words)
+    for allowance in (*range(total_steps(width, kinds, numbers) + 2), MOST):
+        yield Run(width, allowance, kinds, numbers)
+
+
+def longest_runs(lengths=(1, 3, 5, 63, 255)):
+    """Recipes that reach the bound on steps, n + W(n - 1)/2: powers of 1, each with M as its exponent."""
+    for width in WIDTHS:
+        for length in lengths:
+            powers = length // 2
+            kinds = bytes([LITERAL]) + bytes([LITERAL, POWER]) * powers
+            numbers = (1,) + (limit(width), 0) * powers
+            total = length + width * powers
+            for allowance in (0, 1, total // 2, total - 1, total, total + 1, MOST):
+                yield Run(width, allowance, kinds, numbers)
+
+
+def deep_hands():
+    """Hands of 31, 32 and 33 values, added up; and with a literal too large where the hand is full."""
+    for depth in (31, 32, 33):
+        kinds, numbers = bytes(depth) + bytes([SUM]) * (depth - 1), (3,) * depth + (0,) * (depth - 1)
+        for allowance in (depth - 1, depth, depth + 1, 2 * depth - 2, 2 * depth - 1, MOST):
+            yield Run(8, allowance, kinds, numbers)
+        yield Run(8, MOST, kinds, numbers[: depth - 1] + (256,) + numbers[depth:])
+    yield Run(64, 40, bytes(32) + bytes([POWER]) * 31, (2,) * 31 + (0,) + (0,) * 31)
+
+
+def long_recipes():
+    """Lengths around 0 and 256, equal or not."""
+    for width in (0, 8, 64):
+        for n in (0, 1, 255, 256, 257, LIST):
+            kinds = (bytes([LITERAL]) + bytes([LITERAL, SUM]) * (n // 2 + 1))[:n]
+            yield Run(width, MOST, kinds, (0,) * n)
+            yield Run(width, 5, kinds, (0,) * min(n + 1, LIST))
+            yield Run(width, 0, kinds, (0,) * max(n - 1, 0))
+
+
+def known_widths():
+    """The same recipes at widths that are known and at some that are not."""
+    for width in ODD_WIDTHS:
+        for words in ("1 1 sum", "255 1 sum", "300 2 product", "1 quotient", "1 1", "4294967296"):
+            yield Run(width, 100, *recipe(words))
+        yield Run(width, 100, b"", ())
+        yield Run(width, 100, bytes(2), (1,))
+
+
+def shape_faults():
+    """Each fault of an item at the first, a middle and the last place, and each pair of them: which one wins."""
+    kinds, numbers = recipe("1 2 sum 3 product 4 sum 5 2 power sum")
+    places = (0, len(kinds) // 2, len(kinds) - 1)
+    damages = [(place, damage) for place in places for damage in DAMAGES]
+    for first in damages:
+        yield Run(8, 100, *damaged(kinds, numbers, [first]))
+        for second in damages:
+            yield Run(8, 100, *damaged(kinds, numbers, [first, second]))
+
+
+# What can be made wrong at an item: its kind and number. Literals in an operation's place, and the other way round,
+# give 10, 11 or 12 somewhere.
+DAMAGES = ((7, 0), (255, 1), (SUM, 1), (LITERAL, 256), (LITERAL, 1), (QUOTIENT, 0))
+
+
+def damaged(kinds, numbers, damages):
+    kinds, numbers = bytearray(kinds), list(numbers)
+    for place, (kind, number) in damages:
+        kinds[place], numbers[place] = kind, number
+    return bytes(kinds), tuple(numbers)
+
+
+def some_literal(dice, width):
+    if dice.chance(45):
+        return dice.pick((0, 0, 1, 1, 2, 2, 3, 5, 7, 10))
+    return some_number(dice, width)
+
+
+def some_kind(dice, most, left, right):
+    """An operation, mostly one that is not refused; often a product where something overflowed."""
+    kind = dice.pick((SUM, PRODUCT, QUOTIENT, 4, POWER, POWER, LOGARITHM, LOGARITHM))
+    if dice.chance(3) or model.refusal_of(most, kind, model.least(most, left), model.least(most, right)) == 0:
+        return kind
+    return dice.pick((SUM, PRODUCT, PRODUCT))
+
+
+def some_recipe(dice, width, length):
+    """A well-formed recipe of an odd length, built beside the hand that it leaves."""
+    most, hand, kinds, numbers = limit(width), [], [], []
+    deepest = dice.pick((3, 5, 8, 32))
+    for done in range(length):
+        must_work = len(hand) - 1 >= length - done or len(hand) >= deepest
+        if len(hand) >= 2 and (must_work or dice.chance(45)):
+            right, left = hand.pop(), hand.pop()
+            kind, number = some_kind(dice, most, left, right), 0
+            # After a refused item the rest only has to be well formed.
+            hand.append(model.operation(most, kind, left, right)[1])
+        else:
+            kind, number = LITERAL, some_literal(dice, width)
+            hand.append(number)
+        kinds.append(kind)
+        numbers.append(number)
+    return bytes(kinds), tuple(numbers)
+
+
+def some_length(dice):
+    """Mostly short, sometimes up to 255; odd, since a recipe that leaves one value is."""
+    return 2 * dice.below(dice.pick((2, 4, 8, 16, 32, 128))) + 1
+
+
+def some_allowance(dice, total):
+    way = dice.below(4)
+    if way == 0:
+        return dice.pick((0, 1, max(total - 1, 0), total, total + 1, MOST))
+    if way == 1:
+        return some_number(dice, 64)
+    return dice.below(total + 2)
+
+
+def some_run(dice):
+    way = dice.below(20)
+    if way == 0:
+        return bytes_as_recipe(dice)
+    width = dice.pick(WIDTHS)
+    kinds, numbers = some_recipe(dice, width, some_length(dice))
+    if way <= 3:
+        kinds, numbers = some_damage(dice, kinds, numbers)
+        width = dice.pick(ODD_WIDTHS) if dice.chance(15) else width
+    return Run(width, some_allowance(dice, total_steps(width, kinds, numbers)), kinds, numbers)
+
+
+def some_damage(dice, kinds, numbers):
+    """Wrong items at one to three places, and sometimes a list that is longer, shorter or cut off."""
+    places = (0, len(kinds) // 2, len(kinds) - 1, dice.below(len(kinds)))
+    damages = [(dice.pick(places), dice.pick(DAMAGES)) for _ in range(dice.between(0, 3))]
+    kinds, numbers = damaged(kinds, numbers, damages)
+    way = dice.below(8)
+    if way == 0:
+        return kinds, numbers + (0,)
+    if way == 1:
+        return kinds, numbers[:-1]
+    if way == 2:
+        return kinds[:-1], numbers[:-1]
+    if way == 3:
+        more = dice.between(20, 34)
+        return bytes(more) + kinds, (1,) * more + numbers
+    return kinds, numbers
+
+
+def bytes_as_recipe(dice):
+    """Any bytes and numbers at all."""
+    n = dice.below(12)
+    kinds = dice.some_bytes(n) if dice.chance(30) else bytes(dice.below(8) for _ in range(n))
+    k = n if dice.chance(80) else dice.below(12)
+    numbers = tuple(0 if dice.chance(60) else some_number(dice, 64) for _ in range(k))
+    return Run(dice.pick(ODD_WIDTHS), some_number(dice, 64), kinds, numbers)
+
+
+# Fields
+
+
+def range_edges():
+    """Ranges around each power of 2, from 0, from a number, and up to the largest."""
+    for digits in range(65):
+        for wide in sorted({2**digits - 1, min(2**digits, MOST), min(2**digits + 1, MOST)}):
+            for low in sorted({0, min(3, MOST - wide), MOST - wide}):
+                yield Scan((low, low + wide), bytes(2))
+                yield Scan((low + wide, low + wide // 2, low), bytes(3))
+
+
+# What can be wrong at a place of a field: its number and mark.
+PLACE_FAULTS = ((0, 1), (0, 2), (0, 255), (1, 1), (MOST, 1), (5, 2))
+
+
+def place_faults():
+    """Each fault at each place of a short field, and each pair of them: which one wins."""
+    places = (0, 2, 4)
+    faults = [(place, fault) for place in places for fault in PLACE_FAULTS]
+    for first in faults:
+        for second in faults:
+            yield field_with((9, 8, 7, 8, 9), [first, second])
+
+
+def field_with(numbers, faults):
+    numbers, marks = list(numbers), bytearray(len(numbers))
+    for place, (number, mark) in faults:
+        numbers[place], marks[place] = number, mark
+    return Scan(tuple(numbers), bytes(marks))
+
+
+def field_lengths():
+    for n in (0, 1, 2, 55, 255, 256, 257):
+        for k in sorted({0, max(n - 1, 0), n, n + 1}):
+            yield Scan(tuple(range(7, 7 + n)), bytes(k))
+            yield Scan((0,) * n, bytes([1]) * k)
+
+
+def longest_fields():
+    """Fields of as many places as a case may have, with a fault at either end."""
+    for faults in ([], [(0, (0, 1))], [(LIST - 1, (0, 1))], [(LIST - 1, (0, 3)), (LIST - 2, (0, 1))]):
+        yield field_with(range(1000, 1000 + LIST), faults)
+    yield Scan((1,) * LIST, bytes(LIST - 1))
+    yield Scan((1,) * (LIST - 1), bytes(LIST))
+
+
+def some_scan(dice):
+    n = dice.below(dice.pick((4, 12, 60, 300)))
+    numbers = some_numbers(dice, n)
+    if n == 0 or dice.chance(8):
+        return Scan(numbers, bytes(max(0, n + dice.between(-1, 1))))
+    if dice.chance(4):
+        return Scan(numbers, dice.some_bytes(n))
+    wrong = dice.between(1, 3) if dice.chance(40) else 0
+    return field_with(numbers, [(dice.below(n), dice.pick(PLACE_FAULTS)) for _ in range(wrong)])
+
+
+def some_numbers(dice, n):
+    """Numbers of any size, or numbers close together, as a field's mostly are."""
+    if dice.chance(40):
+        return tuple(some_number(dice, 64) for _ in range(n))
+    wide = 2 ** dice.below(64)
+    low = dice.below(MOST - wide)
+    return tuple(low + dice.below(wide + 1) for _ in range(n))
+
+
+# Blocks
+
+
+def some_values(dice, count, overflowed):
+    """So many checked values; each is overflowed with a chance of so many in a hundred."""
+    numbers = some_numbers(dice, count)
+    return [OVERFLOWED if dice.chance(overflowed) else number for number in numbers]
+
+
+def some_block(dice, overflowed=15):
+    count = dice.pick((0, 1, 2, 54, 55)) if dice.chance(40) else dice.below(56)
+    return model.make_block(dice.bits(32) >> dice.below(32), some_values(dice, count, overflowed))
+
+
+def changed(block, place, byte, right_check):
+    """A block with one byte set, its check made right again or left as it was."""
+    block = block[:place] + bytes([byte]) + block[place + 1 :]
+    return model.with_check(block) if right_check else block
+
+
+def block_tables():
+    """Block 0 with no values, with the one value 3, with one overflowed value; the smallest and the largest checks."""
+    for values in ([], [3], [OVERFLOWED]):
+        yield roomy(model.make_block(0, values))
+    yield roomy(model.make_block(2**32 - 1, [MOST] * 55))
+    yield roomy(model.make_block(1, [OVERFLOWED] * 55))
+    yield roomy(model.with_check(bytes([255]) * 512))
+    yield roomy(bytes(512))
+    yield roomy(bytes([255]) * 512)
+
+
+def roomy(block):
+    return Read(block, 56, 56)
+
+
+def block_damages(dice):
+    """A byte of each region changed, with the check made right again and with the check left as it was."""
+    regions = (0, 3, 4, 5, 6, 7, 8, 15, 16, 239, 240, 447, 448, 476, 477, 502, 503, 507, 508, 509, 510, 511)
+    block = model.make_block(77, [OVERFLOWED if i == 5 else 1000 + i for i in range(29)])
+    for place in (*regions, *(dice.below(512) for _ in range(20))):
+        for byte in sorted({0, 1, 2, 255, block[place] ^ 1, block[place] ^ 128}):
+            for right_check in (False, True):
+                yield roomy(changed(block, place, byte, right_check))
+
+
+def block_counts():
+    """Each telling count over the same values, so that the unused ones are not zero where the count is smaller."""
+    for written in (0, 1, 29, 54, 55):
+        block = model.make_block(5, [7 + i for i in range(written)])
+        for count in (0, 1, 28, 29, 30, 53, 54, 55, 56, 57, 127, 255):
+            for right_check in (True, False):
+                yield roomy(changed(block, 4, count, right_check))
+
+
+def block_lengths():
+    block = model.make_block(9, [1, 2, 3])
+    for n in (0, 1, 4, 507, 508, 511, 512, 513, 1024, LIST):
+        yield Read((block * 8)[:n], 3, 3)
+        yield Read(bytes(n), 0, 0)
+
+
+def block_rooms():
+    """Lent lists that are shorter, equal and longer than the count; and those that come after another refusal."""
+    for count in (0, 1, 29, 55):
+        block = model.make_block(3, [OVERFLOWED if i % 9 == 4 else i for i in range(count)])
+        rooms = sorted({0, max(count - 1, 0), count, count + 1, 60})
+        for numbers in rooms:
+            for marks in rooms:
+                yield Read(block, numbers, marks)
+        yield Read(changed(block, 5, 2, True), 0, 0)
+        yield Read(changed(block, 5, 2, False), 0, 0)
+        yield Read(block[:511], 0, 0)
+    yield Read(model.make_block(3, [4]), LIST, LIST)
+
+
+def some_bad_block(dice):
+    """A block with one to three bytes changed; mostly its check is made right again."""
+    block = some_block(dice)
+    for _ in range(dice.between(1, 3)):
+        place = dice.pick((4, 5, 6, 7, dice.below(440) + 8, dice.below(55) + 448, 503, 507, dice.below(512)))
+        block = changed(block, place, dice.pick((0, 1, 2, 55, 56, 255, dice.bits(8))), False)
+    return model.with_check(block) if dice.chance(75) else block
+
+
+def some_read(dice):
+    block = some_bad_block(dice) if dice.chance(50) else some_block(dice)
+    if dice.chance(4):
+        block = block[: dice.below(512)] if dice.chance(50) else block + dice.some_bytes(dice.between(1, 600))
+    count = block[4] if len(block) > 4 else 0
+    return Read(block, some_room(dice, count), some_room(dice, count))
+
+
+def some_room(dice, count):
+    return dice.pick((55, count, count + 1, 60, 56)) if dice.chance(85) else dice.below(count + 1)
+
+
+# Runs of blocks
+
+
+def quiet_blocks(dice, n):
+    return [some_block(dice, overflowed=0) for _ in range(n)]
+
+
+def found_places(dice):
+    """One overflowed value in each block and place that tells, over runs of a few blocks; some with a second one."""
+    for n in (1, 2, 3, 5):
+        for position in range(n):
+            for place in (0, 1, 27, 53, 54):
+                blocks = quiet_blocks(dice, n)
+                for at in {position, dice.between(position, n - 1)}:
+                    blocks[at] = model.make_block(at, [OVERFLOWED if i == place else i for i in range(55)])
+                yield Search(b"".join(blocks))
+
+
+def bad_before_or_after(dice):
+    """A bad block before, at and after the block with the overflowed value, with each reason."""
+    for place, byte, right_check in ((100, 1, False), (5, 2, True), (4, 56, True), (448, 2, True), (507, 1, True)):
+        for bad in range(3):
+            blocks = quiet_blocks(dice, 3)
+            blocks[1] = model.make_block(1, [4, OVERFLOWED, 5])
+            blocks[bad] = changed(blocks[bad], place, byte, right_check)
+            yield Search(b"".join(blocks))
+
+
+def run_lengths(dice):
+    block = model.make_block(1, [OVERFLOWED])
+    for n in (0, 1, 511, 512, 513, 1023, 1024, 1025):
+        yield Search((block * 3)[:n])
+        yield Search((quiet_blocks(dice, 1)[0] * 3)[:n])
+
+
+def longest_searches(dice):
+    """Runs of 127 and 128 blocks: nothing found, found in the last place, and a bad last block."""
+    blocks = quiet_blocks(dice, 127)
+    last = model.make_block(128, [1] * 54 + [OVERFLOWED])
+    yield Search(b"".join(blocks))
+    yield Search(b"".join([*blocks, last]))
+    yield Search(b"".join([*blocks, changed(last, 8, 255, False)]))
+    yield Search((b"".join(blocks) + last)[:-1])
+
+
+def some_search(dice):
+    blocks = quiet_blocks(dice, dice.below(dice.pick((3, 6, 12, 12, 40))))
+    for _ in range(dice.below(3)):
+        if blocks:
+            maker = some_bad_block if dice.chance(35) else some_block
+            blocks[dice.below(len(blocks))] = maker(dice)
+    run = b"".join(blocks)
+    return Search(run[: dice.below(len(run) + 1)] if dice.chance(4) else run)
+
+
+SOME = (some_run, some_scan, some_read, some_search, some_operation, some_signed, some_fit, some_plain)
+
+
+# Inputs that are no list of cases
+
+SOUND = Operation(8, SUM, 1, 2)
+
+
+def malformed():
+    """Pairs of words and bytes: a sound case, then something that ends the replay, then mostly one more sound case."""
+    yield from cut_short()
+    for words, wrong in (*unknown_rows(), *past_the_sizes(), *not_allowed()):
+        yield words, SOUND.encode() + wrong + SOUND.encode()
+
+
+def unknown_rows():
+    return ((f"a case whose first byte is {byte}", bytes([byte])) for byte in (0, 9, 10, 127, 128, 255))
+
+
+def cut_short():
+    """Each row cut after each of its first bytes, and before its last ones."""
+    some = (
+        Run(8, 9, *recipe("1 2 sum")),
+        Scan((1, 2), bytes(2)),
+        Read(model.make_block(1, [2]), 1, 1),
+        Search(model.make_block(1, [2])),
+        Operation(8, SUM, 1, 2),
+        Signed(8, 0, -7, 2),
+        Fit(2, 3),
+        Plain(8, 5),
+    )
+    for case in some:
+        whole = case.encode()
+        for n in range(1, len(whole)):
+            if n < 24 or n >= len(whole) - 2:
+                yield f"a case of '{case.name}' cut off after {n} bytes", SOUND.encode() + whole[:n]
+
+
+def past_the_sizes():
+    """Sizes one past what is allowed, and the largest that can be written, with all the bytes that they ask for."""
+    for more in (LIST + 1, 65535):
+        size, none = more.to_bytes(2, "little"), bytes(2)
+        yield "too many kinds", bytes([1, 8]) + bytes(8) + size + none + bytes(more)
+        yield "too many numbers of a recipe", bytes([1, 8]) + bytes(8) + none + size + bytes(8 * more)
+        yield "too many numbers of a field", bytes([2]) + size + none + bytes(8 * more)
+        yield "too many marks of a field", bytes([2]) + none + size + bytes(more)
+        yield "too many bytes of a block", bytes([3]) + size + none + none + bytes(more)
+        yield "too much room for numbers", bytes([3]) + none + size + none
+        yield "too much room for marks", bytes([3]) + none + none + size
+    for more in (RUN + 1, 2**32 - 1):
+        yield "too long a run of blocks", bytes([4]) + more.to_bytes(4, "little") + bytes(RUN + 1)
+
+
+def not_allowed():
+    """Rows 5, 6 and 8 with a width, kind, mark or number that the row does not allow."""
+    for width in (0, 1, 7, 9, 15, 17, 31, 33, 63, 65, 128, 255):
+        yield f"operation at width {width}", operation_bytes(width, 1, 0, 1, 0, 1)
+        yield f"signed at width {width}", signed_bytes(width, 0, 1, 1)
+        yield f"plain number at width {width}", plain_bytes(width, 0, 1)
+    for kind in (0, 7, 255):
+        yield f"operation of kind {kind}", operation_bytes(8, kind, 0, 1, 0, 1)
+    for which in (2, 255):
+        yield f"signed with the choice {which}", signed_bytes(8, which, 1, 1)
+    for width, mark, number in values_not_allowed():
+        words = f"at width {width}, mark {mark} with number {number}"
+        yield f"plain number {words}", plain_bytes(width, mark, number)
+        yield f"left operand {words}", operation_bytes(width, 2, mark, number, 0, 1)
+        yield f"right operand {words}", operation_bytes(width, 2, 0, 1, mark, number)
+    for width in (8, 16, 32):
+        for number in (2 ** (width - 1), -(2 ** (width - 1)) - 1, 2**63 - 1, -(2**63)):
+            yield f"signed {number} at width {width}", signed_bytes(width, 0, number, 1)
+            yield f"signed 1 by {number} at width {width}", signed_bytes(width, 1, 1, number)
+
+
+def values_not_allowed():
+    for width in (8, 16, 32):
+        yield width, 0, 2**width
+        yield width, 0, MOST
+    for width in WIDTHS:
+        yield width, 2, 0
+        yield width, 255, 1
+        yield width, 1, 1
+
+
+def operation_bytes(width, kind, left_mark, left, right_mark, right):
+    return struct.pack("<BBBBQBQ", 5, width, kind, left_mark, left, right_mark, right)
+
+
+def signed_bytes(width, which, a, b):
+    return struct.pack("<BBBqq", 6, width, which, a, b)
+
+
+def plain_bytes(width, mark, number):
+    return struct.pack("<BBBQ", 8, width, mark, number)

@@ -1,0 +1,473 @@
+"""The rules once more, in Python's unlimited whole numbers: checked values, recipes, fields and blocks.
+
+This is the second program's own reading of the rules; it shares nothing with the crates. What is cheap to say in two
+ways is said in two ways here, and the two are compared on every case: a recipe's shape by a walk and by the list of all
+its faults, a run by single steps and by what it comes to, a block's layout by looking and by writing the block anew.
+
+A checked value is a number, or OVERFLOWED. A refusal is its number; 0 is none.
+"""
+from operator import mul
+from typing import NamedTuple
+
+WIDTHS = (8, 16, 32, 64)
+OVERFLOWED = None
+LITERAL, SUM, PRODUCT, QUOTIENT, REMAINDER, POWER, LOGARITHM = range(7)
+KIND_WORDS = ("literal", "sum", "product", "quotient", "remainder", "power", "logarithm")
+ITEMS, HAND = 256, 32
+BLOCK, VALUES, EDITION = 512, 55, 1
+
+DIVISOR_ZERO, BASE_BELOW_TWO, IS_OVERFLOWED, SIGNED_QUOTIENT = 1, 2, 3, 4
+WIDTH, LENGTHS, COUNT, KIND, LITERAL_LARGE, FEW_ON_HAND, HAND_FULL, SEVERAL_LEFT, NONE_LEFT = range(5, 14)
+FIELD_EMPTY, MARK, BLOCK_SIZE, CHECK, LAYOUT, NO_ROOM, ALLOWANCE = range(14, 21)
+
+
+def limit(width):
+    """M, the largest number of a width."""
+    return 2**width - 1
+
+
+# Checked values and the six operations
+
+
+def checked(most, number):
+    """The checked value that stands for a whole number, where numbers up to `most` fit."""
+    return number if number <= most else OVERFLOWED
+
+
+def least(most, value):
+    """The least number that a checked value stands for."""
+    return most + 1 if value is OVERFLOWED else value
+
+
+def power(most, base, exponent):
+    """base ** exponent as a checked value, without working out what is far above `most`."""
+    if base < 2 or exponent < 2:
+        return checked(most, base ** min(exponent, 1))
+    if (base.bit_length() - 1) * exponent > most.bit_length():
+        return OVERFLOWED
+    return checked(most, base**exponent)
+
+
+def logarithm(base, argument):
+    """The largest e with base ** e <= argument; 0 for the argument 0."""
+    e, reached = 0, base
+    while reached <= argument:
+        e, reached = e + 1, reached * base
+    return e
+
+
+def operation(most, kind, left, right):
+    """A refusal's number, or 0, and the checked value."""
+    if kind == SUM:
+        return 0, checked(most, least(most, left) + least(most, right))
+    if kind == PRODUCT:
+        return 0, checked(most, least(most, left) * least(most, right))
+    if left is OVERFLOWED or right is OVERFLOWED:
+        return IS_OVERFLOWED, 0
+    if kind == POWER:
+        return 0, power(most, left, right)
+    if kind == LOGARITHM:
+        return (0, logarithm(left, right)) if left >= 2 else (BASE_BELOW_TWO, 0)
+    if right == 0:
+        return DIVISOR_ZERO, 0
+    return 0, left // right if kind == QUOTIENT else left % right
+
+
+def signed(width, remainder, a, b):
+    """The truncating quotient of two whole numbers, or what it leaves."""
+    if b == 0:
+        return DIVISOR_ZERO, 0
+    size = abs(a) // abs(b)
+    quotient = size if (a < 0) == (b < 0) else -size
+    if remainder:
+        return 0, a - b * quotient
+    if quotient > 2 ** (width - 1) - 1:
+        return SIGNED_QUOTIENT, 0
+    return 0, quotient
+
+
+def power_fits(base, exponent):
+    """Whether base ** exponent is at most 2 ** 64 - 1. From base 2 on, 64 factors are too many, and so are more."""
+    if base < 2:
+        return True
+    return base ** min(exponent, 64) <= limit(64)
+
+
+def plain(value):
+    """The plain number of a checked value."""
+    return (IS_OVERFLOWED, 0) if value is OVERFLOWED else (0, value)
+
+
+# The shape of a recipe
+
+
+def item_fault(most, kind, number, on_hand):
+    """The refusal that an item gets with so many values on hand."""
+    if kind > LOGARITHM or (kind != LITERAL and number != 0):
+        return KIND
+    if kind != LITERAL:
+        return FEW_ON_HAND if on_hand < 2 else 0
+    if number > most:
+        return LITERAL_LARGE
+    return HAND_FULL if on_hand == HAND else 0
+
+
+def lists_fault(width, kinds, numbers):
+    """What is refused before any item is looked at."""
+    if width not in WIDTHS:
+        return WIDTH
+    if len(kinds) != len(numbers):
+        return LENGTHS
+    return 0 if 1 <= len(kinds) <= ITEMS else COUNT
+
+
+def shape_by_walk(most, kinds, numbers):
+    """The first fault, and its place, by a walk that leaves at it."""
+    on_hand = 0
+    for place, (kind, number) in enumerate(zip(kinds, numbers)):
+        fault = item_fault(most, kind, number, on_hand)
+        if fault:
+            return fault, place
+        on_hand += 1 if kind == LITERAL else -1
+    if on_hand == 1:
+        return 0, 0
+    return (SEVERAL_LEFT if on_hand else NONE_LEFT), len(kinds)
+
+
+def shape_by_faults(most, kinds, numbers):
+    """The same from the list of all faults, as if each place stood alone: the least by place and order is given."""
+    literals = 0
+    faults = []
+    for place, (kind, number) in enumerate(zip(kinds, numbers)):
+        on_hand = literals - (place - literals)
+        known = kind <= LOGARITHM and (kind == LITERAL or number == 0)
+        literal = kind == LITERAL
+        faults += [(place, 0, KIND)] * (not known)
+        faults += [(place, 1, LITERAL_LARGE)] * (literal and number > most)
+        faults += [(place, 2, HAND_FULL)] * (literal and on_hand >= HAND)
+        faults += [(place, 1, FEW_ON_HAND)] * (not literal and on_hand < 2)
+        literals += literal
+    left = literals - (len(kinds) - literals)
+    faults += [(len(kinds), 0, SEVERAL_LEFT)] * (left > 1)
+    faults += [(len(kinds), 0, NONE_LEFT)] * (left == 0)
+    place, _, fault = min(faults, default=(0, 0, 0))
+    return fault, place
+
+
+def shape(width, kinds, numbers):
+    """The refusal of a recipe before it runs, and its place; 0 and 0 where it is well formed."""
+    fault = lists_fault(width, kinds, numbers)
+    if fault:
+        return fault, 0
+    walked = shape_by_walk(limit(width), kinds, numbers)
+    assert walked == shape_by_faults(limit(width), kinds, numbers), "the two shapes differ"
+    return walked
+
+
+# The run of a recipe
+
+
+class Phase(NamedTuple):
+    """Where a run stands: 0 between items, 1 within a power, 2 within a logarithm; and the numbers held."""
+
+    which: int
+    held: tuple
+
+
+BETWEEN = Phase(0, ())
+
+
+class Ran(NamedTuple):
+    """The answer to a run. `hand` has the values on hand, bottom first, where the allowance was spent."""
+
+    code: int
+    place: int
+    value: object
+    steps: int
+    done: int = 0
+    phase: Phase = BETWEEN
+    hand: tuple = ()
+
+
+class Machine:
+    """A run by single steps over checked values of the width."""
+
+    def __init__(self, most, kinds, numbers):
+        self.most, self.kinds, self.numbers = most, kinds, numbers
+        self.hand, self.phase = [], BETWEEN
+        self.steps = self.done = self.code = 0
+
+    def finished(self):
+        return self.code != 0 or self.done == len(self.kinds)
+
+    def put(self, value):
+        """An item's value goes on the hand, and the item is done."""
+        self.hand.append(value)
+        self.phase = BETWEEN
+        self.done += 1
+
+    def times(self, left, right):
+        return operation(self.most, PRODUCT, left, right)[1]
+
+    def step(self):
+        self.steps += 1
+        if self.phase.which == 1:
+            self.power_step(*self.phase.held)
+        elif self.phase.which == 2:
+            base, left, count = self.phase.held
+            self.hold_logarithm(base, left // base, count + 1)
+        else:
+            self.begin(self.kinds[self.done], self.numbers[self.done])
+
+    def begin(self, kind, number):
+        if kind == LITERAL:
+            self.put(number)
+            return
+        right, left = self.hand.pop(), self.hand.pop()
+        # Here a power or a logarithm is only asked for its refusal; its value comes by further steps.
+        self.code, value = operation(self.most, kind, left, right)
+        if self.code:
+            return
+        if kind == POWER:
+            self.hold_power(1, left, right)
+        elif kind == LOGARITHM:
+            self.hold_logarithm(left, right, 0)
+        else:
+            self.put(value)
+
+    def power_step(self, first, second, exponent):
+        if exponent % 2 == 1:
+            first = self.times(first, second)
+        self.hold_power(first, self.times(second, second), exponent // 2)
+
+    def hold_power(self, first, second, exponent):
+        if exponent == 0:
+            self.put(first)
+        else:
+            self.phase = Phase(1, (first, second, exponent))
+
+    def hold_logarithm(self, base, left, count):
+        if left < base:
+            self.put(count)
+        else:
+            self.phase = Phase(2, (base, left, count))
+
+
+def run_by_steps(most, kinds, numbers, allowance):
+    machine = Machine(most, kinds, numbers)
+    while not machine.finished() and machine.steps < allowance:
+        machine.step()
+    if machine.code:
+        return Ran(machine.code, machine.done, 0, machine.steps)
+    if machine.finished():
+        return Ran(0, 0, machine.hand[0], machine.steps)
+    return Ran(ALLOWANCE, machine.done, 0, machine.steps, machine.done, machine.phase, tuple(machine.hand))
+
+
+def refusal_of(most, kind, left, right):
+    """The refusal of an operation on whole numbers, told which numbers fit."""
+    if kind <= PRODUCT:
+        return 0
+    if left > most or right > most:
+        return IS_OVERFLOWED
+    if kind in (QUOTIENT, REMAINDER) and right == 0:
+        return DIVISOR_ZERO
+    return BASE_BELOW_TWO if kind == LOGARITHM and left < 2 else 0
+
+
+# A whole number at least this large is written as this one: far above every width, and min(n, CEILING) of a sum, a
+# product or a power can be had from the operands so written. tests/second/selftest.py also runs with a ceiling that no
+# recipe of 8 bits reaches.
+CEILING = 2**160
+
+
+def whole_power(base, exponent, ceiling):
+    if base < 2 or exponent == 0:
+        return base ** min(exponent, 1)
+    if (base.bit_length() - 1) * exponent >= ceiling.bit_length():
+        return ceiling
+    return base**exponent
+
+
+def worth(kind, left, right, ceiling):
+    """What an operation comes to over whole numbers."""
+    if kind == SUM:
+        number = left + right
+    elif kind == PRODUCT:
+        number = left * right
+    elif kind == QUOTIENT:
+        number = left // right
+    elif kind == REMAINDER:
+        number = left % right
+    elif kind == POWER:
+        number = whole_power(left, right, ceiling)
+    else:
+        number = logarithm(left, right)
+    return min(number, ceiling)
+
+
+def further_steps(kind, left, right):
+    """The steps of an operation after its first: the exponent's binary digits, or the logarithm."""
+    if kind == POWER:
+        return right.bit_length()
+    return logarithm(left, right) if kind == LOGARITHM else 0
+
+
+def phase_after(most, kind, left, right, steps, ceiling):
+    """What a power or a logarithm holds after so many further steps, each number by a formula of its own."""
+    if kind == LOGARITHM:
+        return Phase(2, (left, right // left**steps, steps))
+    first = whole_power(left, right % 2**steps, ceiling)
+    second = whole_power(left, 2**steps, ceiling)
+    return Phase(1, (checked(most, first), checked(most, second), right // 2**steps))
+
+
+def run_by_meaning(most, kinds, numbers, allowance, ceiling=CEILING):
+    """The same answer from what each item comes to over unlimited whole numbers, and from how many steps it takes."""
+    hand, spent = [], 0
+    for place, (kind, number) in enumerate(zip(kinds, numbers)):
+        if spent == allowance:
+            return stopped(most, spent, place, BETWEEN, hand)
+        if kind == LITERAL:
+            hand.append(number)
+            spent += 1
+            continue
+        right, left = hand.pop(), hand.pop()
+        code = refusal_of(most, kind, left, right)
+        if code:
+            return Ran(code, place, 0, spent + 1)
+        further = further_steps(kind, left, right)
+        if spent + 1 + further > allowance:
+            phase = phase_after(most, kind, left, right, allowance - spent - 1, ceiling)
+            return stopped(most, allowance, place, phase, hand)
+        spent += 1 + further
+        hand.append(worth(kind, left, right, ceiling))
+    return Ran(0, 0, checked(most, hand[0]), spent)
+
+
+def stopped(most, steps, done, phase, hand):
+    return Ran(ALLOWANCE, done, 0, steps, done, phase, tuple(checked(most, number) for number in hand))
+
+
+def run(width, kinds, numbers, allowance):
+    """The answer to a recipe with an allowance."""
+    code, place = shape(width, kinds, numbers)
+    if code:
+        return Ran(code, place, 0, 0)
+    most = limit(width)
+    ran = run_by_steps(most, kinds, numbers, allowance)
+    assert ran == run_by_meaning(most, kinds, numbers, allowance), "the two runs differ"
+    assert 2 * ran.steps <= 2 * len(kinds) + width * (len(kinds) - 1), "more steps than the bound"
+    return ran
+
+
+# Fields
+
+
+def place_fault(number, mark):
+    if mark > 1 or (mark == 1 and number != 0):
+        return MARK
+    return IS_OVERFLOWED if mark == 1 else 0
+
+
+def packing_width(least_number, greatest):
+    return logarithm(2, greatest - least_number) + 1
+
+
+def scan(numbers, marks):
+    """Refusal, place, least, greatest and packing width of a field."""
+    if len(numbers) != len(marks):
+        return LENGTHS, 0, 0, 0, 0
+    if not numbers:
+        return FIELD_EMPTY, 0, 0, 0, 0
+    for place, mark in enumerate(marks):
+        if mark:
+            return place_fault(numbers[place], mark), place, 0, 0, 0
+    lowest, highest = min(numbers), max(numbers)
+    return 0, 0, lowest, highest, packing_width(lowest, highest)
+
+
+# Blocks
+
+
+def check_of(block):
+    """The sum of each of the first 508 bytes times its place counted from 1."""
+    return sum(map(mul, range(1, 509), block))
+
+
+def with_check(block):
+    """The same bytes with the check made right."""
+    return bytes(block[:508]) + check_of(block).to_bytes(4, "little")
+
+
+def make_block(number, values):
+    """The block of a list of checked values."""
+    unused = VALUES - len(values)
+    numbers = b"".join((value or 0).to_bytes(8, "little") for value in values)
+    marks = bytes(value is OVERFLOWED for value in values)
+    head = number.to_bytes(4, "little") + bytes([len(values), EDITION, 0, 0])
+    return with_check(head + numbers + bytes(8 * unused) + marks + bytes(unused) + bytes(5 + 4))
+
+
+def number_of_block(block):
+    return int.from_bytes(block[:4], "little")
+
+
+def values_of(block):
+    """The numbers and the marks of a block up to its count."""
+    count = block[4]
+    return [int.from_bytes(block[8 + 8 * i : 16 + 8 * i], "little") for i in range(count)], block[448 : 448 + count]
+
+
+def layout_by_looking(block):
+    count = block[4]
+    if count > VALUES or block[5] != EDITION:
+        return LAYOUT
+    if any(block[6:8]) or any(block[8 + 8 * count : 448]) or any(block[448 + count : 508]):
+        return LAYOUT
+    numbers, marks = values_of(block)
+    return LAYOUT if any(place_fault(number, mark) == MARK for number, mark in zip(numbers, marks)) else 0
+
+
+def layout_by_writing(block):
+    """A block has the layout exactly when writing what it holds anew gives the same bytes."""
+    if block[4] > VALUES:
+        return LAYOUT
+    values = [OVERFLOWED if mark else number for number, mark in zip(*values_of(block))]
+    return 0 if make_block(number_of_block(block), values) == with_check(block) else LAYOUT
+
+
+def block_fault(block):
+    """16, 17 or 18, or 0 for a sound block."""
+    if len(block) != BLOCK:
+        return BLOCK_SIZE
+    if int.from_bytes(block[508:], "little") != check_of(block):
+        return CHECK
+    fault = layout_by_looking(block)
+    assert fault == layout_by_writing(block), "the two layouts differ"
+    return fault
+
+
+def read(block, room_numbers, room_marks):
+    """Refusal, block number, and the numbers and marks that are written."""
+    fault = block_fault(block)
+    if fault == 0 and min(room_numbers, room_marks) < block[4]:
+        fault = NO_ROOM
+    if fault:
+        return fault, 0, [], b""
+    return 0, number_of_block(block), *values_of(block)
+
+
+def search(run_of_blocks):
+    """Refusal, its place, and the first overflowed value as block position and place in the block, or None."""
+    if len(run_of_blocks) % BLOCK:
+        return BLOCK_SIZE, 0, None
+    for position in range(len(run_of_blocks) // BLOCK):
+        block = run_of_blocks[BLOCK * position : BLOCK * position + BLOCK]
+        fault = block_fault(block)
+        if fault:
+            return fault, position, None
+        place = values_of(block)[1].find(1)
+        if place >= 0:
+            return 0, 0, (position, place)
+    return 0, 0, None

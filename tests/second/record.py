@@ -1,0 +1,96 @@
+#!/usr/bin/env python3
+"""Writes the recorded cases, crates/replay/stdin, and the model's lines for them, crates/replay/stdout.
+
+With --check nothing is written: the two files must be what would be written. The same cases come each time.
+"""
+import sys
+from itertools import chain
+from pathlib import Path
+
+import cases
+import model
+import rows
+
+HERE = Path(__file__).resolve().parents[2] / "crates" / "replay"
+SEED = 20261115
+# How many random cases of each row there are beside those at the boundaries.
+RANDOM = (700, 300, 250, 60, 300, 150, 150, 40)
+
+
+def tables():
+    """The tables of small runs, of signed numbers, of packing widths and of block checks, at the head of the list."""
+    yield from chain.from_iterable(cases.every_allowance(8, words) for words in cases.SMALL_RUNS)
+    for a, b in ((-7, 2), (7, -2), (-128, -1)):
+        yield rows.Signed(8, 0, a, b)
+        yield rows.Signed(8, 1, a, b)
+    for wide in (1, 255, 256):
+        yield rows.Scan((0, wide), bytes(2))
+    yield from cases.block_tables()
+
+
+def few_edges(width):
+    most = model.limit(width)
+    return (0, 1, 2, most - 1, most)
+
+
+def few_signed_edges(width):
+    low = -(2 ** (width - 1))
+    return (low, low + 1, -2, -1, 0, 1, 2, -low - 1)
+
+
+def boundaries(dice):
+    yield from cases.operation_edges(numbers=few_edges)
+    yield from cases.every_signed_edge(few_signed_edges)
+    yield from cases.fit_edges()
+    yield from cases.plain_edges()
+    yield from chain.from_iterable(cases.every_allowance(*rich) for rich in cases.RICH_RUNS)
+    yield from cases.longest_runs()
+    yield from cases.deep_hands()
+    yield from cases.long_recipes()
+    yield from cases.known_widths()
+    yield from every(3, cases.shape_faults())
+    yield from every(5, cases.range_edges())
+    yield from every(3, cases.place_faults())
+    yield from cases.field_lengths()
+    yield from every(2, cases.longest_fields())
+    yield from every(2, cases.block_damages(dice))
+    yield from every(3, cases.block_counts())
+    yield from cases.block_lengths()
+    yield from every(2, cases.block_rooms())
+    yield from every(2, cases.found_places(dice))
+    yield from cases.bad_before_or_after(dice)
+    yield from cases.run_lengths(dice)
+    yield from cases.longest_searches(dice)
+
+
+def every(n, things):
+    """Each n-th of them, so that the files stay small; the fresh cases have them all."""
+    return list(things)[::n]
+
+
+def recorded():
+    dice = cases.Dice(SEED)
+    random_ones = [maker(dice) for maker, count in zip(cases.SOME, RANDOM) for _ in range(count)]
+    return [*tables(), *boundaries(dice), *dice.shuffled(random_ones)]
+
+
+def main():
+    some = recorded()
+    files = {
+        HERE / "stdin": rows.encode(some),
+        HERE / "stdout": ("\n".join(rows.lines(some)) + "\n").encode(),
+    }
+    if sys.argv[1:] == ["--check"]:
+        wrong = [path.name for path, content in files.items() if not path.exists() or path.read_bytes() != content]
+        if wrong:
+            sys.exit(f"record: crates/replay/{wrong[0]} isn't what tests/second/record.py writes")
+    else:
+        HERE.mkdir(parents=True, exist_ok=True)
+        for path, content in files.items():
+            path.write_bytes(content)
+    sizes = " and ".join(f"{len(content)} bytes of {path.name}" for path, content in files.items())
+    print(f"record: {len(some)} cases ({rows.counts(some)}), {sizes}")
+
+
+if __name__ == "__main__":
+    main()
