@@ -1,8 +1,8 @@
 -- The laws on checked values, each file standing on those above it. `Promises` states what the functions promise.
 pub mod Arms
 pub mod Limit
-pub mod Powers
 pub mod Squares
+pub mod Powers
 pub mod Logarithms
 pub mod Standing
 pub mod Promises

@@ -2,16 +2,13 @@
 -- Assumes nothing.
 use mathlib.Core.Path.{_≡_, ap, sym, _∙_}
 use Prim.Native.Nat.{ℕ, zero, suc, _+_, _*_, _/_, _^_, _≤_, _<_}
-use native.Mathlib.Nat.{pow-zero, pow-suc, one-mul, le-div-iff-mul-le, div-lt-iff-lt-mul, mul-le-mul-left, pow-le-pow-left}
+use native.Mathlib.Nat.{pow-zero, pow-suc, le-div-iff-mul-le, div-lt-iff-lt-mul, mul-le-mul-left, pow-le-pow-left}
 use native.Mathlib.Decide.{decLt}
 use lib.Pow.{pow-mono}
 use Rattle.whole.specs.logarithm.{log-of}
 use Rattle.whole.proofs.Naturals.{log-of-zero, log-of-floor}
 use native.Mathlib.Numerals.{add-one}
 use native.Mathlib.Omega.{arith}
-
-pub first-power : (base : ℕ) → base ≡ base ^ 1
-first-power base = sym (pow-suc base 0 ∙ ap (λ p. p * base) (pow-zero base) ∙ one-mul base)
 
 module _ (base n power count : ℕ) (b : 1 < base) (e : power ≡ base ^ count) where
   pub next-power : power * base ≡ base ^ (count + 1)

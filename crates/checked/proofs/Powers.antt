@@ -2,11 +2,12 @@
 -- always stand for the power that was asked.
 -- Assumes nothing.
 use mathlib.Core.Path.{_≡_, ap, ap₂, sym, _∙_}
-use Prim.Native.Nat.{ℕ, zero, suc, _+_, _*_, _/_, _%_, _^_}
-use native.Mathlib.Nat.{pow-zero, pow-suc, pow-succ', mul-assoc, mul-one, one-mul, div-add-mod}
+use Prim.Native.Nat.{ℕ, zero, suc, _*_, _/_, _%_, _^_}
+use native.Mathlib.Nat.{pow-zero, pow-suc, mul-assoc, one-mul}
 use native.Mathlib.Omega.{arith}
 use Rattle.checked.specs.Value.{Value, checkedOf, least, productOf}
 use Rattle.checked.proofs.Limit.{absorb, absorb-left, settled-at}
+use Rattle.checked.proofs.Squares.{even-digit-kept, odd-digit-kept, no-digit-left}
 
 -- what first and second with an exponent e that is left stand for: first * second ^ e
 abbrev pub powered : ℕ → Value → Value → ℕ → Value
@@ -27,17 +28,10 @@ absorb-power M x y (suc e) =
     moved : (a b c : ℕ) → a * b * c ≡ a * c * b
     moved a b c = omega arith
 
--- the square's power is the power by twice the exponent
-pub squared : (s k : ℕ) → (s * s) ^ k ≡ s ^ (k + k)
-squared s zero = pow-zero (s * s) ∙ sym (pow-zero s)
-squared s (suc k) =
-    pow-suc (s * s) k ∙ ap (λ p. p * (s * s)) (squared s k) ∙ sym (mul-assoc (s ^ (k + k)) s s) ∙ ap (λ p. p * s) (sym (pow-suc s (k + k)))
-    ∙ sym (pow-suc s (suc (k + k))) ∙ ap (λ e. s ^ e) (omega arith)
-
 pub even-digit : (M : ℕ) (first second : Value) (e : ℕ) → e % 2 ≡ 0 → powered M first (productOf M second second) (e / 2) ≡ powered M first second e
 even-digit M first second e h =
     let s = least M second in
-    absorb-power M (least M first) (s * s) (e / 2) ∙ ap (λ p. checkedOf M (least M first * p)) (squared s (e / 2) ∙ ap (λ k. s ^ k) (omega (arith, div-add-mod e 2)))
+    absorb-power M (least M first) (s * s) (e / 2) ∙ ap (checkedOf M) (even-digit-kept (least M first) s e h)
 
 pub odd-digit
     : (M : ℕ) (first second : Value) (e : ℕ) → e % 2 ≡ 1 → powered M (productOf M first second) (productOf M second second) (e / 2) ≡ powered M first second e
@@ -47,7 +41,7 @@ odd-digit M first second e h =
     let k = e / 2 in
     absorb-power M (least M (checkedOf M (f * s))) (s * s) k
     ∙ absorb-left M (f * s) ((s * s) ^ k)
-    ∙ ap (checkedOf M) (ap (λ p. f * s * p) (squared s k) ∙ mul-assoc f s (s ^ (k + k)) ∙ ap (λ p. f * p) (sym (pow-succ' s (k + k)) ∙ ap (λ n. s ^ n) (omega (arith, div-add-mod e 2))))
+    ∙ ap (checkedOf M) (odd-digit-kept f s e h)
 
 -- the two values with which a power begins
 pub power-begins : (M b e : ℕ) {first second : Value} → first ≡ checkedOf M 1 → second ≡ checkedOf M b → powered M first second e ≡ checkedOf M (b ^ e)
@@ -56,8 +50,7 @@ power-begins M b e p q =
 
 -- with the exponent 0 it is the first value
 pub no-digit : (M : ℕ) (first second : Value) (e : ℕ) → e ≡ 0 → checkedOf M (least M first) ≡ powered M first second e
-no-digit M first second e h =
-    ap (checkedOf M) (sym (ap (λ n. least M first * least M second ^ n) h ∙ ap (λ p. least M first * p) (pow-zero (least M second)) ∙ mul-one (least M first)))
+no-digit M first second e h = ap (checkedOf M) (no-digit-left (least M first) (least M second) e h)
 
 -- a turn: the exponent's last digit is 1 and goes into the first value, or it is 0; the second value is squared; what is stood for stays, and
 -- the first value stays a value of the limit

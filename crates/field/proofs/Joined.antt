@@ -1,7 +1,7 @@
 -- Marks joined by 'or' are zero exactly where each of them is.
 -- Assumes nothing.
 use mathlib.Core.Path.{_≡_, ap, sym, _∙_}
-use mathlib.Core.Bool.{Bool, _&&_}
+use mathlib.Core.Bool.{_&&_}
 use mathlib.Core.List.{List}
 use Prim.Native.Nat.{ℕ, _+_}
 use native.Mathlib.Decide.{ℕ-discrete}
@@ -11,8 +11,8 @@ use borrow.Author.Tests.{eq-eqb, ne-eqb}
 use lib.Bits.{bitOr, or-zero-l, or-add-and, and-le-r}
 use lib.Dec.{eqb}
 use lib.ListN.{getD}
-use Rattle.places.specs.Places.{every}
 use Rattle.places.proofs.Every.{every-more}
+use Rattle.field.specs.Field.{unmarkedAt, unmarked}
 
 -- two numbers joined are zero exactly where both are
 pub or-zero : (a x : ℕ) → eqb (bitOr a x) 0 ≡ (eqb a 0 && eqb x 0)
@@ -23,14 +23,6 @@ or-zero a x =
           let set : bitOr a x ≡ 0 → ⊥ = λ e. n (let s = or-add-and a x in let l = and-le-r a x in omega arith) in
           ne-eqb (bitOr a x) 0 set ∙ ap (λ t. t && eqb x 0) (sym (ne-eqb a 0 n))
     ]
-
--- the mark at place i is 0
-abbrev pub unmarkedAt : List ℕ → ℕ → Bool
-unmarkedAt marks i = eqb (getD marks i 0) 0
-
--- the first n marks are 0
-abbrev pub unmarked : List ℕ → ℕ → Bool
-unmarked marks n = every (unmarkedAt marks) n
 
 module _ (marks : List ℕ) (i : ℕ) where
   -- one mark more

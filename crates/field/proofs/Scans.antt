@@ -12,10 +12,9 @@ use lib.Dec.{eqb, ltb}
 use lib.ListN.{length, getD}
 use Rattle.places.proofs.First.{first-within, first-holds, none-before, first-is, first-none}
 use Rattle.places.proofs.Every.{every-at}
-use Rattle.field.specs.Field.{faultAt, faulty, firstFault, NoFaultBefore}
+use Rattle.field.specs.Field.{faultAt, faulty, firstFault, NoFaultBefore, unmarkedAt, unmarked}
 use Rattle.field.specs.Range.{refused, rangeOf, scanPlaces, scanOf}
 use Rattle.field.proofs.Faults.{unmarked-fits, marked-faulty}
-use Rattle.field.proofs.Joined.{unmarkedAt, unmarked}
 
 module _ (numbers marks : List ℕ) where
   -- ---- a place's test

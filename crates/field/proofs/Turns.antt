@@ -10,7 +10,8 @@ use native.Mathlib.Omega.{arith}
 use borrow.Author.Tests.{eq-eqb}
 use lib.ListN.{length, getD, drop, drop-of-length-le}
 use Rattle.field.specs.Range.{keptFrom, kept, least, greatest, packingWidth, ranged, rangeOf}
-use Rattle.field.proofs.Joined.{unmarked, unmarked-more}
+use Rattle.field.specs.Field.{unmarked}
+use Rattle.field.proofs.Joined.{unmarked-more}
 use Rattle.field.proofs.Ranges.{kept-at, kept-end}
 
 -- ---- the marks

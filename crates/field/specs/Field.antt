@@ -6,7 +6,7 @@ use mathlib.Core.List.{List}
 use Prim.Native.Nat.{ℕ, _<_}
 use lib.Dec.{eqb}
 use lib.ListN.{length, getD}
-use Rattle.places.specs.Places.{first}
+use Rattle.places.specs.Places.{first, every}
 
 -- a mark that is 0 or 1, and with 1 the number 0
 abbrev pub wellMarked : ℕ → ℕ → Bool
@@ -35,3 +35,13 @@ NoFaultBefore numbers marks i = (j : ℕ) → j < i → faultAt numbers marks j 
 -- c is the fault at place i of the field, and no place before it has one
 abbrev pub EndsAt : List ℕ → List ℕ → ℕ → ℕ → Type 0
 EndsAt numbers marks c i = (i < length numbers) × (faultAt numbers marks i ≡ c) × NoFaultBefore numbers marks i
+
+-- ---- for the scan's helpers
+
+-- the mark at place i is 0
+abbrev pub unmarkedAt : List ℕ → ℕ → Bool
+unmarkedAt marks i = eqb (getD marks i 0) 0
+
+-- the first n marks are 0
+abbrev pub unmarked : List ℕ → ℕ → Bool
+unmarked marks n = every (unmarkedAt marks) n

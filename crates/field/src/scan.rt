@@ -5,11 +5,9 @@ use checked::refusal::Refusal;
 ghost use mathlib.Core.Path.{_≡_};
 ghost use mathlib.Core.Bool.{true, false};
 ghost use Prim.Native.Nat.{_<_, min, max};
-ghost use lib.Dec.{eqb};
 ghost use lib.ListN.{length, getD};
 ghost use Rattle.checked.specs.Paper.{numberOf};
-ghost use Rattle.places.specs.Places.{every};
-ghost use Rattle.field.specs.Field.{faultOf};
+ghost use Rattle.field.specs.Field.{faultOf, unmarked};
 ghost use Rattle.field.specs.Range.{rangeOf, scanOf};
 ghost use Rattle.field.specs.Answers.{scanned};
 
@@ -32,7 +30,7 @@ pub fn scan(numbers: &[u64], marks: &[u8]) -> Scan
 
 // Whether every mark is 0. There is no early exit: the marks are joined by 'or', which a compiler does sixteen at a time.
 fn unmarked(marks: &[u8]) -> bool
-    ensures { λ r. ⌜ r ≡ every (λ i. eqb (getD (now (marks .entry)) i 0) 0) (length (now (marks .entry))) ⌝ }
+    ensures { λ r. ⌜ r ≡ unmarked (now (marks .entry)) (length (now (marks .entry))) ⌝ }
 {
     let mut any: u8 = 0;
     let mut i = 0;
@@ -84,8 +82,8 @@ fn larger(a: u64, b: u64) -> u64
 
 // The first marked place of marks that aren't all 0.
 fn first_marked(marks: &[u8]) -> usize
-    requires { ⌜ every (λ i. eqb (getD (now marks) i 0) 0) (length (now marks)) ≡ false ⌝ }
-    ensures { λ r. ⌜ (r < length (now (marks .entry))) × (0 < getD (now (marks .entry)) r 0) × (every (λ i. eqb (getD (now (marks .entry)) i 0) 0) r ≡ true) ⌝ }
+    requires { ⌜ unmarked (now marks) (length (now marks)) ≡ false ⌝ }
+    ensures { λ r. ⌜ (r < length (now (marks .entry))) × (0 < getD (now (marks .entry)) r 0) × (unmarked (now (marks .entry)) r ≡ true) ⌝ }
 {
     let mut place = 0;
     while marks[place] == 0 {

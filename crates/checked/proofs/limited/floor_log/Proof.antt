@@ -5,7 +5,8 @@ use mathlib.Core.Path.{_≡_, sym}
 use Prim.Native.Nat.{_*_, _≤_, _<_, _-_, _^_}
 use native.Mathlib.Omega.{arith}
 use Rattle.whole.proofs.Naturals.{log-of-small, log-of-unique}
-use Rattle.checked.proofs.Logarithms.{first-power, next-power, next-larger, next-within, next-beyond}
+use Rattle.checked.proofs.Squares.{power-one}
+use Rattle.checked.proofs.Logarithms.{next-power, next-larger, next-within, next-beyond}
 use Rattle.checked.proofs.limited.floor_log.Statement.{statement}
 use Rattle.checked.proofs.limited.floor_log.Tie as tie
 
@@ -34,7 +35,7 @@ div-most : tie.Need-div-most Inv-loop μ-loop
 div-most c = omega arith
 
 loop-holds : tie.Need-loop-holds Inv-loop μ-loop
-loop-holds c = (first-power (c .before .args .base), omega arith, omega arith)
+loop-holds c = (power-one (c .before .args .base), omega arith, omega arith)
 
 mul-power : tie.Need-mul-power Inv-loop μ-loop
 mul-power c = omega (arith, turn c)

@@ -6,7 +6,7 @@ use native.Mathlib.Nat.{mul-comm, mul-pos}
 use native.Mathlib.Omega.{arith}
 use borrow.Author.Needs.{needs}
 use Rattle.checked.proofs.Standing.{is-fitting, is-overflowed}
-use Rattle.checked.proofs.Squares.{even-digit-kept, odd-digit-kept, digit-beyond, square-positive}
+use Rattle.checked.proofs.Squares.{even-digit-kept, odd-digit-kept, digit-beyond, right-positive}
 use Rattle.checked.proofs.limited.with_digit.Statement.{statement}
 use Rattle.checked.proofs.limited.with_digit.Tie as tie
 
@@ -15,7 +15,7 @@ returns c =
     let s = c .before in
     let g = s .args in (
       ap (λ q. g .first * q ^ (g .left / 2)) (s .pre .2) ∙ even-digit-kept (g .first) (g .second) (g .left) (c .if1 .taken),
-      λ h. s .pre .1 (square-positive (g .second) (omega (arith, s .pre .2))),
+      λ h. s .pre .1 (right-positive (g .second) (g .second) (omega (arith, s .pre .2))),
     )
 
 checked-mul-requires : tie.Need-checked-mul-requires
@@ -35,7 +35,7 @@ returns-2 c =
     let e = mul-comm (g .first) (g .second) ∙ is-fitting (g .limit) (g .second * g .first) (n .0 .0) (sym (c .before .before .before .checked-mul .ensures) ∙ n .1) in (
       ap (λ q. n .0 .0 * q ^ (g .left / 2)) (s .pre .2) ∙ ap (λ f. f * (g .second * g .second) ^ (g .left / 2)) (sym e)
           ∙ odd-digit-kept (g .first) (g .second) (g .left) (omega (arith, c .before .before .before .before .if1 .left)),
-      λ h. let p = square-positive (g .second) (omega (arith, s .pre .2)) in omega (arith, mul-pos (s .pre .1 p) p, e),
+      λ h. let p = right-positive (g .second) (g .second) (omega (arith, s .pre .2)) in omega (arith, mul-pos (s .pre .1 p) p, e),
     )
 
 returns-3 : tie.Need-returns-3

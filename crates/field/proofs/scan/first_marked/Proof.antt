@@ -7,7 +7,7 @@ use native.Mathlib.Omega.{arith}
 use borrow.Author.Needs.{needs}
 use lib.ListN.{length}
 use Rattle.places.proofs.Every.{every-none}
-use Rattle.field.proofs.Joined.{unmarkedAt, unmarked}
+use Rattle.field.specs.Field.{unmarkedAt, unmarked}
 use Rattle.field.proofs.Turns.{unmarked-turn, marked-ahead}
 use Rattle.field.proofs.scan.first_marked.Statement.{statement}
 use Rattle.field.proofs.scan.first_marked.Tie as tie

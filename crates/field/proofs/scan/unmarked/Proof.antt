@@ -7,7 +7,8 @@ use borrow.Author.Needs.{needs}
 use lib.Dec.{eqb}
 use lib.ListN.{length}
 use Rattle.places.proofs.Every.{every-none}
-use Rattle.field.proofs.Joined.{unmarkedAt, unmarked, joined-turn}
+use Rattle.field.specs.Field.{unmarkedAt, unmarked}
+use Rattle.field.proofs.Joined.{joined-turn}
 use Rattle.field.proofs.scan.unmarked.Statement.{statement}
 use Rattle.field.proofs.scan.unmarked.Tie as tie
 
