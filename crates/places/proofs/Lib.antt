@@ -3,4 +3,5 @@ pub mod First
 pub mod Every
 pub mod Totals
 pub mod Tables
+pub mod Copies
 pub mod Faults

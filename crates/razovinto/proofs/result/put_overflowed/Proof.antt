@@ -2,7 +2,7 @@
 -- Assumes nothing.
 use lib.ListN.{length-set}
 use lib.Seq.{sets-eq}
-use Rattle.layout.specs.Bytes.{bytesOf}
+use Rattle.little.specs.Bytes.{bytesOf}
 use Rattle.razovinto.specs.Entry.{resultBytes}
 use borrow.Author.Needs.{needs}
 use Rattle.razovinto.proofs.result.put_overflowed.Statement.{statement}
