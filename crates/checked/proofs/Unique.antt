@@ -4,9 +4,10 @@
 use mathlib.Core.Path.{_≡_, refl, ap, sym, _∙_}
 use mathlib.Core.Bool.{false, cond}
 use mathlib.Core.List.{List, [], _∷_}
-use Prim.Native.Nat.{ℕ, _-_}
+use Prim.Native.Nat.{ℕ}
+use native.Mathlib.Omega.{arith}
+use borrow.Author.Tests.{ne-eqb}
 use lib.Dec.{eqb}
-use lib.ListN.{getD}
 use Rattle.checked.specs.declared.refusal.Refusal.{Refusal}
 use Rattle.checked.specs.declared.refusal.Refusal.the-variants as refusal
 use Rattle.checked.specs.declared.types.Checked64.the-variants as c64
@@ -25,15 +26,21 @@ one f back inverse x y e = sym (inverse x) ∙ ap back e ∙ inverse y
 
 -- ---- refusals
 
+-- every refusal, in any order
 refusals : List Refusal
 refusals =
-    refusal.DivisorZero ∷ refusal.BaseBelowTwo ∷ refusal.Overflowed ∷ refusal.QuotientTooLarge ∷ refusal.UnknownWidth ∷ refusal.LengthsDiffer ∷ refusal.ItemCount ∷ refusal.UnknownKind ∷ refusal.LiteralTooLarge ∷ refusal.TooFewOnHand ∷ refusal.HandFull ∷ refusal.SeveralLeft ∷ refusal.NoneLeft ∷ refusal.FieldEmpty ∷ refusal.BadMark ∷ refusal.BlockLength ∷ refusal.WrongCheck ∷ refusal.BadLayout ∷ refusal.ListTooShort ∷ refusal.AllowanceSpent ∷ []
+    refusal.DivisorZero ∷ refusal.BaseBelowTwo ∷ refusal.Overflowed ∷ refusal.QuotientTooLarge ∷ refusal.UnknownWidth ∷ refusal.LengthsDiffer ∷ refusal.ItemCount ∷ refusal.UnknownKind ∷ refusal.LiteralTooLarge ∷ refusal.TooFewOnHand ∷ refusal.HandFull ∷ refusal.SeveralLeft ∷ refusal.NoneLeft ∷ refusal.FieldEmpty ∷ refusal.BadMark ∷ refusal.BlockLength ∷ refusal.WrongCheck ∷ refusal.BadLayout ∷ refusal.ListTooShort ∷ refusal.AllowanceSpent ∷ refusal.BlockNumberTooLarge ∷ refusal.UnusableReading ∷ refusal.NotWhole ∷ refusal.OtherBlockNumber ∷ []
+
+-- the first of a list's refusals with the number n
+firstWith : ℕ → List Refusal → Refusal
+firstWith n [] = refusal.DivisorZero
+firstWith n (r ∷ rs) = cond (eqb (numberOf r) n) r (firstWith n rs)
 
 pub refusalOf : ℕ → Refusal
-refusalOf n = getD refusals (n - 1) refusal.DivisorZero
+refusalOf n = firstWith n refusals
 
 pub refusal-back : (r : Refusal) → refusalOf (numberOf r) ≡ r
-unfolding refusalOf refusals
+unfolding refusalOf refusals firstWith
 refusal-back refusal.DivisorZero = refl
 refusal-back refusal.BaseBelowTwo = refl
 refusal-back refusal.Overflowed = refl
@@ -54,29 +61,17 @@ refusal-back refusal.WrongCheck = refl
 refusal-back refusal.BadLayout = refl
 refusal-back refusal.ListTooShort = refl
 refusal-back refusal.AllowanceSpent = refl
+refusal-back refusal.BlockNumberTooLarge = refl
+refusal-back refusal.UnusableReading = refl
+refusal-back refusal.NotWhole = refl
+refusal-back refusal.OtherBlockNumber = refl
 
--- no refusal has the number 0
+-- no refusal has the number 0: the way back from 0 leads to one with another number
 pub not-zero : (r : Refusal) → eqb (numberOf r) 0 ≡ false
-not-zero refusal.DivisorZero = refl
-not-zero refusal.BaseBelowTwo = refl
-not-zero refusal.Overflowed = refl
-not-zero refusal.QuotientTooLarge = refl
-not-zero refusal.UnknownWidth = refl
-not-zero refusal.LengthsDiffer = refl
-not-zero refusal.ItemCount = refl
-not-zero refusal.UnknownKind = refl
-not-zero refusal.LiteralTooLarge = refl
-not-zero refusal.TooFewOnHand = refl
-not-zero refusal.HandFull = refl
-not-zero refusal.SeveralLeft = refl
-not-zero refusal.NoneLeft = refl
-not-zero refusal.FieldEmpty = refl
-not-zero refusal.BadMark = refl
-not-zero refusal.BlockLength = refl
-not-zero refusal.WrongCheck = refl
-not-zero refusal.BadLayout = refl
-not-zero refusal.ListTooShort = refl
-not-zero refusal.AllowanceSpent = refl
+unfolding refusalOf refusals firstWith
+not-zero r =
+    ne-eqb (numberOf r) 0 (λ z.
+    let e : numberOf r ≡ 1 = ap numberOf (sym (refusal-back r) ∙ ap refusalOf z) in omega arith)
 
 pub refusal-unique : (r s : Refusal) → numberOf r ≡ numberOf s → r ≡ s
 refusal-unique = one numberOf refusalOf refusal-back

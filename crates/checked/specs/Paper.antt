@@ -43,6 +43,10 @@ numberOf refusal.WrongCheck = 17
 numberOf refusal.BadLayout = 18
 numberOf refusal.ListTooShort = 19
 numberOf refusal.AllowanceSpent = 20
+numberOf refusal.BlockNumberTooLarge = 21
+numberOf refusal.UnusableReading = 22
+numberOf refusal.NotWhole = 23
+numberOf refusal.OtherBlockNumber = 24
 
 abbrev pub refused : ℕ → Paper
 refused n = record { code = n; place = 0; mark = 0; number = 0 }

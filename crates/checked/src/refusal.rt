@@ -1,4 +1,4 @@
-// Why a call is refused. `numberOf` of specs/Paper.antt gives each case its number, from 1 to 20 in this order.
+// Why a call is refused. `numberOf` of specs/Paper.antt gives each case its number, from 1 to 24 in this order.
 ghost use mathlib.Core.Path.{_≡_};
 ghost use Rattle.checked.specs.Paper.{numberOf};
 
@@ -43,6 +43,14 @@ pub enum Refusal {
     ListTooShort,
     // allowance spent
     AllowanceSpent,
+    // block number that would pass 2^32 - 1
+    BlockNumberTooLarge,
+    // reading that is NaN or infinite
+    UnusableReading,
+    // reading that isn't a whole number from 0 to 16,777,215
+    NotWhole,
+    // sound block with another number
+    OtherBlockNumber,
 }
 
 impl Refusal {
@@ -71,6 +79,10 @@ impl Refusal {
             Refusal::BadLayout => 18,
             Refusal::ListTooShort => 19,
             Refusal::AllowanceSpent => 20,
+            Refusal::BlockNumberTooLarge => 21,
+            Refusal::UnusableReading => 22,
+            Refusal::NotWhole => 23,
+            Refusal::OtherBlockNumber => 24,
         }
     }
 }

@@ -34,6 +34,14 @@ fn phrase(line: &mut [u8], at: usize, refusal: Refusal) -> usize {
         ),
         Refusal::ListTooShort => word(line, at, b"list too short for what would be written"),
         Refusal::AllowanceSpent => word(line, at, b"allowance spent"),
+        Refusal::BlockNumberTooLarge => word(line, at, b"block number above 2^32 - 1"),
+        Refusal::UnusableReading => word(line, at, b"reading is NaN or infinite"),
+        Refusal::NotWhole => word(
+            line,
+            at,
+            b"reading is not a whole number from 0 to 16,777,215",
+        ),
+        Refusal::OtherBlockNumber => word(line, at, b"block has another number"),
     }
 }
 
