@@ -1,12 +1,12 @@
 -- What a step of an item comes to, by cases as the code has them.
 -- Assumes nothing.
 use mathlib.Core.Path.{_≡_, refl, ap, ap₂, sym, _∙_, subst}
-use mathlib.Core.Bool.{Bool, true, false, cond, _&&_}
+use mathlib.Core.Bool.{true, false, cond, _&&_}
 use Prim.Native.Nat.{ℕ, zero, suc, _+_, _/_, _%_, _≤_, _<_}
 use native.Mathlib.Nat.{le-div-iff-mul-le, div-add-mod, mul-le-mul-left}
 use native.Mathlib.Omega.{arith}
-use borrow.Author.Tests.{eq-eqb, ne-eqb, le-leb, lt-leb, lt-ltb, le-ltb}
-use lib.Dec.{eqb, ltb}
+use borrow.Author.Tests.{eq-eqb, ne-eqb, le-leb, lt-leb}
+use lib.Dec.{eqb}
 use Rattle.checked.specs.declared.types.Both.{Both}
 use Rattle.checked.specs.declared.types.Both.the-variants as both
 use Rattle.checked.specs.declared.types.Checked64.the-variants.{Fits, Overflowed}
@@ -14,6 +14,7 @@ use Rattle.checked.specs.Value.{Value, checkedOf, least, sumOf, productOf, both
 use Rattle.checked.proofs.Arms.{both-are}
 use Rattle.shape.specs.Items.{Operation, sum, product, quotient, remainder, power, logarithm, Kind, literal, operation, unknown, kindOf}
 use Rattle.meaning.specs.Meaning.{refusal}
+use Rattle.meaning.proofs.Refusals.{AsksFitting, passing, overflowing, zero-divides, base-too-small}
 use Rattle.steps.specs.declared.types.Phase.the-variants.{InPower, InLogarithm}
 use Rattle.steps.specs.Steps.{Outcome, value, within, fails, powering, powerStep, dividing, fitting, entered, begun}
 use Rattle.recipe.specs.Machine.{Begins, SoundLogarithm}
@@ -87,22 +88,22 @@ module _ (M : ℕ) where
       sym (ap {B = Outcome} (λ c. elim (eqb c 0) [ true ↦ entered M o a b | false ↦ fails c ]) e ∙ ap {B = Outcome} (λ t. elim t [ true ↦ entered M o a b | false ↦ fails c ]) n)
 
   pub begun-quotient : (l r : ℕ) → (r ≡ 0 → ⊥) → value (Fits (l / r)) ≡ begun M quotient (Fits l) (Fits r)
-  begun-quotient l r h = begun-entered quotient (Fits l) (Fits r) (ap (λ t. cond t 1 0) (ne-eqb r 0 h))
+  begun-quotient l r n = begun-entered quotient (Fits l) (Fits r) (passing quotient true true l r ((refl, refl), n))
 
   pub begun-remainder : (l r : ℕ) → (r ≡ 0 → ⊥) → value (Fits (l % r)) ≡ begun M remainder (Fits l) (Fits r)
-  begun-remainder l r h = begun-entered remainder (Fits l) (Fits r) (ap (λ t. cond t 1 0) (ne-eqb r 0 h))
+  begun-remainder l r n = begun-entered remainder (Fits l) (Fits r) (passing remainder true true l r ((refl, refl), n))
 
   pub quotient-by-zero : (l r : ℕ) → r ≡ 0 → fails 1 ≡ begun M quotient (Fits l) (Fits r)
-  quotient-by-zero l r h = begun-fails quotient (Fits l) (Fits r) 1 refl (ap (λ t. cond t 1 0) (eq-eqb r 0 h))
+  quotient-by-zero l r z = begun-fails quotient (Fits l) (Fits r) 1 refl (zero-divides quotient true true l r z (refl, refl))
 
   pub remainder-by-zero : (l r : ℕ) → r ≡ 0 → fails 1 ≡ begun M remainder (Fits l) (Fits r)
-  remainder-by-zero l r h = begun-fails remainder (Fits l) (Fits r) 1 refl (ap (λ t. cond t 1 0) (eq-eqb r 0 h))
+  remainder-by-zero l r z = begun-fails remainder (Fits l) (Fits r) 1 refl (zero-divides remainder true true l r z (refl, refl))
 
   pub begun-logarithm : (l r : ℕ) → 2 ≤ l → dividing l r 0 ≡ begun M logarithm (Fits l) (Fits r)
-  begun-logarithm l r h = begun-entered logarithm (Fits l) (Fits r) (ap (λ t. cond t 2 0) (le-ltb l 2 h))
+  begun-logarithm l r h = begun-entered logarithm (Fits l) (Fits r) (passing logarithm true true l r ((refl, refl), h))
 
   pub small-base : (l r : ℕ) → l < 2 → fails 2 ≡ begun M logarithm (Fits l) (Fits r)
-  small-base l r h = begun-fails logarithm (Fits l) (Fits r) 2 refl (ap (λ t. cond t 2 0) (lt-ltb l 2 h))
+  small-base l r h = begun-fails logarithm (Fits l) (Fits r) 2 refl (base-too-small logarithm true true l r h (refl, refl))
 
 -- ---- by the kind's code
 
@@ -116,22 +117,14 @@ pub begins : (M : ℕ) (a b : Value) (k : ℕ) {j : ℕ} {q : Operation} {o : Ou
 unfolding operationIn
 begins M a b k h i e p h' = e ∙ ap (λ x. begun M x a b) (ap operationIn (sym (ap kindOf i ∙ h) ∙ h'))
 
--- kinds 3 to 6 ask that both operands fit
-AsksFitting : Operation → Type 0
-AsksFitting sum = ⊥
-AsksFitting product = ⊥
-AsksFitting quotient = Unit {0}
-AsksFitting remainder = Unit {0}
-AsksFitting power = Unit {0}
-AsksFitting logarithm = Unit {0}
-
+-- kinds 3 to 6 ask for operands that fit
 asksFitting : Kind → Type 0
 asksFitting literal = Unit {0}
 asksFitting (operation o) = AsksFitting o
 asksFitting unknown = Unit {0}
 
 from-quotient : (k : ℕ) → 2 < k → asksFitting (kindOf k)
-unfolding asksFitting AsksFitting kindOf
+unfolding asksFitting kindOf
 from-quotient zero h = tt
 from-quotient (suc zero) h = absurd (omega arith)
 from-quotient (suc (suc zero)) h = absurd (omega arith)
@@ -155,17 +148,8 @@ not-fitting (Fits l) (Fits r) e = absurd (subst Numbered e tt)
 not-fitting (Fits l) Overflowed e = refl
 not-fitting Overflowed b e = refl
 
-refused-3 : (o : Operation) (f g : Bool) (l r : ℕ) → (f && g) ≡ false → AsksFitting o → refusal o f g l r ≡ 3
-unfolding AsksFitting
-refused-3 sum f g l r e h = absurd h
-refused-3 product f g l r e h = absurd h
-refused-3 quotient f g l r e h = ap (λ t. cond t (cond (eqb r 0) 1 0) 3) e
-refused-3 remainder f g l r e h = ap (λ t. cond t (cond (eqb r 0) 1 0) 3) e
-refused-3 power f g l r e h = ap (λ t. cond t 0 3) e
-refused-3 logarithm f g l r e h = ap (λ t. cond t (cond (ltb l 2) 2 0) 3) e
-
 overflowed-fails : (M : ℕ) (a b : Value) (o : Operation) → bothOf a b ≡ both.Overflowed → AsksFitting o → fails 3 ≡ begun M o a b
-overflowed-fails M a b o e h = begun-fails M o a b 3 refl (refused-3 o (fitting a) (fitting b) (least M a) (least M b) (not-fitting a b e) h)
+overflowed-fails M a b o e h = begun-fails M o a b 3 refl (overflowing o (fitting a) (fitting b) (least M a) (least M b) (h, not-fitting a b e))
 
 pub overflowed-begins : (M : ℕ) (a b : Value) (k : ℕ) → 2 < k → bothOf a b ≡ both.Overflowed → Begins M (kindOf k) a b (fails 3)
 unfolding asksFitting
