@@ -1,14 +1,14 @@
 -- The bound on the count of steps: an operation takes at most W further steps, and fewer than half of a well-formed recipe's items are operations.
 -- Assumes nothing.
 use mathlib.Core.Path.{_≡_, refl, ap, sym, _∙_, subst}
-use mathlib.Core.Bool.{Bool, true, false, cond, _&&_}
+use mathlib.Core.Bool.{Bool, true, false}
 use mathlib.Core.List.{List, [], _∷_}
 use Prim.Native.Nat.{ℕ, suc, _+_, _-_, _*_, _/_, _≤_, _<_, zero-le}
 use native.Mathlib.Omega.{arith}
-use lib.Dec.{eqb, leb, ltb}
+use lib.Dec.{eqb, leb}
 use lib.ListN.{length}
 use lib.Pow.{lt-of-le-ones}
-use borrow.Author.Tests.{leb-true, ltb-false, eqb-true}
+use borrow.Author.Tests.{leb-true, eqb-true}
 use Rattle.whole.specs.logarithm.{log-of}
 use Rattle.checked.specs.Value.{limitOf}
 use Rattle.checked.proofs.Logarithms.{log-below-width}
@@ -16,22 +16,11 @@ use Rattle.shape.specs.Items.{Operation, sum, product, quotient, remainder, pow
 use Rattle.shape.specs.Shape.{Good}
 use Rattle.meaning.specs.Meaning.{refusalAt, refusalOn, top, under, handOn}
 use Rattle.meaning.specs.Count.{digits, furtherAt, furtherOn, countFrom, count}
+use Rattle.meaning.proofs.Refusals.{passed, counted-at-most}
 use Rattle.meaning.proofs.Digits.{digits-at-most}
 use Rattle.meaning.proofs.Operations.{operationsOf, operations, length-odd}
 
 -- ---- an operation
-
--- counted only where both operands fit
-counted-at-most : (t u : Bool) (n W : ℕ) → (u ≡ true → n ≤ W) → cond (t && u) n 0 ≤ W
-counted-at-most true true n W h = h refl
-counted-at-most true false n W h = zero-le
-counted-at-most false u n W h = zero-le
-
--- where a test before others and a test after it give no refusal, the later one fails
-later-test : (t u : Bool) (a b : ℕ) → cond t (cond u (suc a) 0) (suc b) ≡ 0 → u ≡ false
-later-test true true a b e = absurd (omega arith)
-later-test true false a b e = refl
-later-test false u a b e = absurd (omega arith)
 
 pub further-at-most
     : (W : ℕ) (o : Operation) (l r : ℕ) → 0 < W →
@@ -41,10 +30,13 @@ further-at-most W product l r w e = zero-le
 further-at-most W quotient l r w e = zero-le
 further-at-most W remainder l r w e = zero-le
 further-at-most W power l r w e =
-    counted-at-most (leb l (limitOf W)) (leb r (limitOf W)) (digits r) W (λ h. digits-at-most W r (lt-of-le-ones W (leb-true r (limitOf W) h)))
+    let M = limitOf W in
+    counted-at-most (leb l M) (leb r M) (digits r) W (λ b. digits-at-most W r (lt-of-le-ones W (leb-true r M (b .1))))
 further-at-most W logarithm l r w e =
-    counted-at-most (leb l (limitOf W)) (leb r (limitOf W)) (log-of l r) W
-    (λ h. omega (arith, log-below-width l r W (ltb-false l 2 (later-test (leb l (limitOf W) && leb r (limitOf W)) (ltb l 2) 1 2 e)) w (lt-of-le-ones W (leb-true r (limitOf W) h))))
+    let M = limitOf W in
+    let base = passed logarithm (leb l M) (leb r M) l r e .1 in
+    counted-at-most (leb l M) (leb r M) (log-of l r) W
+    (λ b. omega (arith, log-below-width l r W base w (lt-of-le-ones W (leb-true r M (b .1)))))
 
 -- ---- a recipe
 

@@ -1,27 +1,25 @@
 -- Which refusals a recipe's meaning can have, and where: 1, 2 or 3, at one of its items.
 -- Assumes nothing.
-use mathlib.Core.Path.{_≡_, refl}
-use mathlib.Core.Bool.{Bool, true, false, cond, _&&_}
+use mathlib.Core.Path.{_≡_, refl, sym, subst}
+use mathlib.Core.Bool.{Bool, true, false}
 use mathlib.Core.List.{List, [], _∷_}
 use Prim.Native.Nat.{ℕ, suc, _+_, _≤_, _<_, zero-le}
 use native.Mathlib.Omega.{arith}
-use lib.Dec.{eqb, leb, ltb}
+use lib.Dec.{eqb, leb}
 use lib.ListN.{length}
 use borrow.Author.Tests.{eqb-false}
-use Rattle.shape.specs.Items.{Operation, sum, product, quotient, remainder, power, logarithm, Kind, literal, operation, unknown, Item}
+use Rattle.shape.specs.Items.{Operation, Kind, literal, operation, unknown, Item}
 use Rattle.meaning.specs.Meaning.{Meant, failed, refusal, refusalOn, top, under, handOn, meaningFrom, meaning}
-
-cond-at-most : (t : Bool) (a b n : ℕ) → a ≤ n → b ≤ n → cond t a b ≤ n
-cond-at-most true a b n h k = h
-cond-at-most false a b n h k = k
+use Rattle.meaning.proofs.Refusals.{row, passes, overflowed, by-zero, small-base}
 
 refusal-at-most : (o : Operation) (s t : Bool) (l r : ℕ) → refusal o s t l r ≤ 3
-refusal-at-most sum s t l r = zero-le
-refusal-at-most product s t l r = zero-le
-refusal-at-most quotient s t l r = cond-at-most (s && t) (cond (eqb r 0) 1 0) 3 3 (cond-at-most (eqb r 0) 1 0 3 (omega arith) (omega arith)) (omega arith)
-refusal-at-most remainder s t l r = cond-at-most (s && t) (cond (eqb r 0) 1 0) 3 3 (cond-at-most (eqb r 0) 1 0 3 (omega arith) (omega arith)) (omega arith)
-refusal-at-most power s t l r = cond-at-most (s && t) 0 3 3 (omega arith) (omega arith)
-refusal-at-most logarithm s t l r = cond-at-most (s && t) (cond (ltb l 2) 2 0) 3 3 (cond-at-most (ltb l 2) 2 0 3 (omega arith) (omega arith)) (omega arith)
+refusal-at-most o s t l r =
+    elim (row o s t l r) [
+      | passes k e ↦ subst (λ c. c ≤ 3) (sym e) zero-le
+      | overflowed k e ↦ subst (λ c. c ≤ 3) (sym e) (omega arith)
+      | by-zero k b e ↦ subst (λ c. c ≤ 3) (sym e) (omega arith)
+      | small-base k b e ↦ subst (λ c. c ≤ 3) (sym e) (omega arith)
+    ]
 
 item-refusal-at-most : (M : ℕ) (hand : List ℕ) (k : Kind) → refusalOn M hand k ≤ 3
 item-refusal-at-most M hand literal = zero-le

@@ -1,4 +1,5 @@
 -- The laws of this crate, each file standing on those above it. `Promises` states what the crate promises.
+pub mod Refusals
 pub mod Single
 pub mod SameAsChecked
 pub mod Digits

@@ -2,12 +2,12 @@
 -- again after it.
 -- Assumes nothing.
 use mathlib.Core.Path.{_≡_, refl, ap, ap₂, sym, _∙_}
-use mathlib.Core.Bool.{true, false, cond, _&&_}
+use mathlib.Core.Bool.{true, false, cond}
 use mathlib.Core.List.{List, [], _∷_}
 use Prim.Native.Nat.{ℕ, zero, suc, _+_, _-_, _*_, _/_, _^_, _≤_, _<_}
 use native.Mathlib.Nat.{le-refl}
 use native.Mathlib.Omega.{arith}
-use lib.Dec.{eqb, leb}
+use lib.Dec.{eqb}
 use lib.IntN.{natAbs}
 use lib.ListN.{length}
 use lib.Pow.{pow-mono}
@@ -15,11 +15,13 @@ use borrow.Author.Tests.{le-leb, le-ltb}
 use Rattle.whole.proofs.power.{lemma1-pow}
 use Rattle.whole.proofs.Naturals.{natural-pow}
 use Rattle.checked.specs.Value.{limitOf}
-use Rattle.shape.specs.Items.{kindOf, Item, items}
+use Rattle.shape.specs.Items.{power, kindOf, Item, items}
 use Rattle.shape.specs.Shape.{Good}
-use Rattle.meaning.specs.Meaning.{Meant, number, failed, meaningFrom}
-use Rattle.meaning.specs.Count.{digits, countFrom}
+use Rattle.meaning.specs.Meaning.{refusalAt, Meant, number, failed, meaningFrom}
+use Rattle.meaning.specs.Count.{digits, furtherAt, countFrom}
 use Rattle.meaning.specs.Reaching.{powersKinds, powersNumbers, reachingKinds, reachingNumbers, Reaches}
+use Rattle.meaning.proofs.Refusals.{counted}
+use Rattle.meaning.proofs.Single.{power-not-refused}
 use Rattle.meaning.proofs.Digits.{digits-of-limit}
 use Rattle.meaning.proofs.Bound.{halved}
 
@@ -32,8 +34,12 @@ powers : ℕ → ℕ → List Item
 powers M m = items (powersKinds m) (powersNumbers M m)
 
 module _ (M : ℕ) (h : 1 ≤ M) where
-  both-fit : leb 1 M && leb M M ≡ true
-  both-fit = ap₂ (λ s t. s && t) (le-leb 1 M h) (le-leb M M (le-refl M))
+  -- 1 and M fit, so the power isn't refused, and each digit of M is counted
+  not-refused : refusalAt M power 1 M ≡ 0
+  not-refused = power-not-refused M 1 M h (le-refl M)
+
+  digits-counted : furtherAt M power 1 M ≡ digits M
+  digits-counted = counted (digits M) (le-leb 1 M h, le-leb M M (le-refl M))
 
   powers-good : (m : ℕ) → Good M 1 (powers M m)
   unfolding kindOf powers
@@ -44,7 +50,8 @@ module _ (M : ℕ) (h : 1 ≤ M) where
   unfolding kindOf meaningFrom powers
   powers-meaning zero i = refl
   powers-meaning (suc m) i =
-      ap {B = Meant} (λ t. elim (eqb (cond t 0 3) 0) [ true ↦ meaningFrom M (suc (suc i)) (1 ^ M ∷ []) (powers M m) | false ↦ failed (cond t 0 3) (suc i) ]) both-fit
+      let later = meaningFrom M (suc (suc i)) (1 ^ M ∷ []) (powers M m) in
+      ap {B = Meant} (λ c. elim (eqb c 0) [ true ↦ later | false ↦ failed c (suc i) ]) not-refused
       ∙ ap (λ p. meaningFrom M (suc (suc i)) (p ∷ []) (powers M m)) (one-pow M)
       ∙ powers-meaning m (suc (suc i))
 
@@ -52,8 +59,10 @@ module _ (M : ℕ) (h : 1 ≤ M) where
   unfolding kindOf countFrom powers
   powers-count zero = omega arith
   powers-count (suc m) =
-      ap (λ t. suc (0 + elim (eqb (cond t 0 3) 0) [ true ↦ suc (cond t (digits M) 0 + countFrom M (1 ^ M ∷ []) (powers M m)) | false ↦ 1 ])) both-fit
-      ∙ ap (λ p. suc (0 + suc (digits M + countFrom M (p ∷ []) (powers M m)))) (one-pow M)
+      let further = furtherAt M power 1 M in
+      let later = countFrom M (1 ^ M ∷ []) (powers M m) in
+      ap {B = ℕ} (λ c. suc (0 + elim (eqb c 0) [ true ↦ suc (further + later) | false ↦ 1 ])) not-refused
+      ∙ ap₂ (λ f p. suc (0 + suc (f + countFrom M (p ∷ []) (powers M m)))) digits-counted (one-pow M)
       ∙ ap (λ c. suc (0 + suc (digits M + c))) (powers-count m)
       ∙ omega arith
 

@@ -1,65 +1,80 @@
 -- An operation of a recipe answers what the same operation on checked values answers: the two tables of refusals and results are one.
 -- Assumes nothing.
 use mathlib.Core.Path.{_≡_, refl, ap, ap₂, sym, _∙_}
-use mathlib.Core.Bool.{Bool, true, false, cond, _&&_}
+use mathlib.Core.Bool.{Bool, true, false, cond, _&&_, true≢false}
 use Prim.Native.Nat.{ℕ, _/_, _%_, _^_, _≤_}
 use native.Mathlib.Nat.{div-le-self, mod-le}
-use native.Mathlib.Decide.{decLe}
 use native.Mathlib.Omega.{arith}
-use lib.Dec.{eqb, leb, ltb}
-use borrow.Author.Tests.{le-leb, ltb-false}
+use lib.Dec.{eqb, leb}
+use borrow.Author.Tests.{leb-true, eq-eqb, ne-eqb, lt-ltb, le-ltb}
 use Rattle.whole.specs.logarithm.{log-of}
-use Rattle.checked.specs.declared.types.Both.the-variants as both
 use Rattle.checked.specs.declared.types.Checked64.the-variants.{Fits, Overflowed}
 use Rattle.checked.specs.Value.{checkedOf, sumOf, productOf, bothOf}
 use Rattle.checked.specs.Paper.{Paper, given, refused, onBoth, dividedBy, leftBy, powersOf, logOf, quotientOf, remainderOf, powerOf, logarithmOf}
-use Rattle.checked.proofs.Limit.{fits, over}
+use Rattle.checked.proofs.Limit.{fits}
 use Rattle.checked.proofs.Logarithms.{log-at-most}
 use Rattle.checked.proofs.Standing.{sum-of-values, product-of-values}
 use Rattle.shape.specs.Items.{Operation, sum, product, quotient, remainder, power, logarithm}
 use Rattle.meaning.specs.Meaning.{worth, refusalAt}
 use Rattle.meaning.specs.Alone.{answer, alone}
-use Rattle.meaning.proofs.Single.{above-refused}
+use Rattle.meaning.proofs.Refusals.{BothFit, Passes, ByZero, SmallBase}
+use Rattle.meaning.proofs.Refusals.{row, passes, overflowed, by-zero, small-base}
 
 module _ (M l r : ℕ) where
-  -- where both fit, the operation on numbers answers
-  both-fit : l ≤ M → r ≤ M → bothOf (checkedOf M l) (checkedOf M r) ≡ both.Numbers l r
-  both-fit h k = sym (ap₂ bothOf (fits M l h) (fits M r k))
+  on-values : (ℕ → ℕ → Paper) → Paper
+  on-values f = onBoth f (bothOf (checkedOf M l) (checkedOf M r))
+
+  -- where both fit, an operation f on numbers answers
+  on-numbers : (f : ℕ → ℕ → Paper) → BothFit (leb l M) (leb r M) → on-values f ≡ f l r
+  unfolding on-values
+  on-numbers f (p, q) = sym (ap (onBoth f) (ap₂ bothOf (fits M l (leb-true l M p)) (fits M r (leb-true r M q))))
 
   -- and where one doesn't, 3
-  one-above : (l ≤ M → r ≤ M → ⊥) → bothOf (checkedOf M l) (checkedOf M r) ≡ both.Overflowed
-  one-above n =
-      elim (decLe l M) [
-        | yes h ↦ elim (decLe r M) [ yes k ↦ absurd (n h k) | no k ↦ sym (ap₂ bothOf (fits M l h) (over M r (omega arith))) ]
-        | no h ↦ ap (λ a. bothOf a (checkedOf M r)) (sym (over M l (omega arith)))
-      ]
+  one-above : (f : ℕ → ℕ → Paper) → (leb l M && leb r M) ≡ false → refused 3 ≡ on-values f
+  unfolding checkedOf on-values
+  one-above f e = by-test (leb l M) (leb r M) e
+    where
+      by-test
+          : (s t : Bool) → (s && t) ≡ false →
+          refused 3 ≡ onBoth f (bothOf (cond s (Fits l) Overflowed) (cond t (Fits r) Overflowed))
+      by-test true true e = absurd (true≢false e)
+      by-test true false e = refl
+      by-test false t e = refl
 
-  -- so an operation f on numbers that agrees with the recipe's where both fit agrees with it everywhere
+  -- so an operation f on numbers that answers by the table of refusals where both fit answers as the recipe's does
   agrees
-      : (o : Operation) (f : ℕ → ℕ → Paper) → (l ≤ M → r ≤ M → alone M o l r ≡ f l r) → ((l ≤ M → r ≤ M → ⊥) → refusalAt M o l r ≡ 3) →
-      alone M o l r ≡ onBoth f (bothOf (checkedOf M l) (checkedOf M r))
-  agrees o f same above =
-      elim (decLe l M) [
-        | yes h ↦
-            elim (decLe r M) [
-              | yes k ↦ same h k ∙ sym (ap (onBoth f) (both-fit h k))
-              | no k ↦ beyond (λ p q. k q)
-            ]
-        | no h ↦ beyond (λ p q. h p)
+      : (o : Operation) (f : ℕ → ℕ → Paper) →
+      (Passes o (leb l M) (leb r M) l r → BothFit (leb l M) (leb r M) × (given (checkedOf M (worth o l r)) ≡ f l r)) →
+      (ByZero o r → refused 1 ≡ f l r) → (SmallBase o l → refused 2 ≡ f l r) →
+      alone M o l r ≡ on-values f
+  agrees o f passed zero small =
+      elim (row o (leb l M) (leb r M) l r) [
+        | passes k e ↦ answered e ∙ passed k .1 ∙ sym (on-numbers f (passed k .0))
+        | overflowed k e ↦ answered e ∙ one-above f (k .1)
+        | by-zero k b e ↦ answered e ∙ zero k ∙ sym (on-numbers f b)
+        | small-base k b e ↦ answered e ∙ small k ∙ sym (on-numbers f b)
       ]
     where
-      beyond : (l ≤ M → r ≤ M → ⊥) → alone M o l r ≡ onBoth f (bothOf (checkedOf M l) (checkedOf M r))
-      beyond n = ap (λ c. answer c (checkedOf M (worth o l r))) (above n) ∙ sym (ap (onBoth f) (one-above n))
+      answered : {c : ℕ} → refusalAt M o l r ≡ c → alone M o l r ≡ answer c (checkedOf M (worth o l r))
+      answered e = ap (λ c. answer c (checkedOf M (worth o l r))) e
 
-  -- where both fit, a refusal n stands behind a test b, and otherwise there is a number that fits
-  tested
-      : (n : ℕ) (b : Bool) (m : ℕ) → eqb n 0 ≡ false → (b ≡ false → m ≤ M) → l ≤ M → r ≤ M →
-      answer (cond (leb l M && leb r M) (cond b n 0) 3) (checkedOf M m) ≡ cond b (refused n) (given (Fits m))
-  tested n b m z h p q = ap (λ t. answer (cond t (cond b n 0) 3) (checkedOf M m)) (ap₂ _&&_ (le-leb l M p) (le-leb r M q)) ∙ by-test b h
-    where
-      by-test : (b : Bool) → (b ≡ false → m ≤ M) → answer (cond b n 0) (checkedOf M m) ≡ cond b (refused n) (given (Fits m))
-      by-test true h = ap (λ t. cond t (given (checkedOf M m)) (refused n)) z
-      by-test false h = ap given (sym (fits M m (h refl)))
+  -- a quotient or a remainder that is at most l
+  divided
+      : (n : ℕ) → n ≤ l → BothFit (leb l M) (leb r M) → (r ≡ 0 → ⊥) →
+      given (checkedOf M n) ≡ cond (eqb r 0) (refused 1) (given (Fits n))
+  divided n h (p, q) z =
+      let k = leb-true l M p in
+      ap given (sym (fits M n (omega arith))) ∙ sym (ap (λ t. cond t (refused 1) (given (Fits n))) (ne-eqb r 0 z))
+
+  by-zero-too : (n : ℕ) → r ≡ 0 → refused 1 ≡ cond (eqb r 0) (refused 1) (given (Fits n))
+  by-zero-too n z = sym (ap (λ t. cond t (refused 1) (given (Fits n))) (eq-eqb r 0 z))
+
+  -- a logarithm is at most r
+  found : BothFit (leb l M) (leb r M) → 2 ≤ l → given (checkedOf M (log-of l r)) ≡ logOf l r
+  found (p, q) h =
+      let k = leb-true r M q in
+      ap given (sym (fits M (log-of l r) (omega (arith, log-at-most l r h))))
+      ∙ sym (ap (λ t. cond t (refused 2) (given (Fits (log-of l r)))) (le-ltb l 2 h))
 
   pub same-as-checked
       : (alone M sum l r ≡ given (sumOf M (checkedOf M l) (checkedOf M r)))
@@ -68,11 +83,15 @@ module _ (M l r : ℕ) where
       × (alone M remainder l r ≡ remainderOf (checkedOf M l) (checkedOf M r))
       × (alone M power l r ≡ powerOf M (checkedOf M l) (checkedOf M r))
       × (alone M logarithm l r ≡ logarithmOf (checkedOf M l) (checkedOf M r))
+  unfolding on-values
   same-as-checked = (
     ap given (sym (sum-of-values M l r)),
     ap given (sym (product-of-values M l r)),
-    agrees quotient dividedBy (λ h k. tested 1 (eqb r 0) (l / r) refl (λ e. omega (arith, div-le-self l r)) h k) (λ n. above-refused M l r n .0),
-    agrees remainder leftBy (λ h k. tested 1 (eqb r 0) (l % r) refl (λ e. omega (arith, mod-le l r)) h k) (λ n. above-refused M l r n .1),
-    agrees power (powersOf M) (λ h k. ap (λ t. answer (cond t 0 3) (checkedOf M (l ^ r))) (ap₂ _&&_ (le-leb l M h) (le-leb r M k))) (λ n. above-refused M l r n .2),
-    agrees logarithm logOf (λ h k. tested 2 (ltb l 2) (log-of l r) refl (λ e. omega (arith, log-at-most l r (ltb-false l 2 e))) h k) (λ n. above-refused M l r n .3),
+    agrees quotient dividedBy (λ k. (k .0, divided (l / r) (div-le-self l r) (k .0) (k .1)))
+        (by-zero-too (l / r)) (λ k. absurd k),
+    agrees remainder leftBy (λ k. (k .0, divided (l % r) (mod-le l r) (k .0) (k .1)))
+        (by-zero-too (l % r)) (λ k. absurd k),
+    agrees power (powersOf M) (λ k. (k, refl)) (λ k. absurd k) (λ k. absurd k),
+    agrees logarithm logOf (λ k. (k .0, found (k .0) (k .1))) (λ k. absurd k)
+        (λ h. sym (ap (λ t. cond t (refused 2) (given (Fits (log-of l r)))) (lt-ltb l 2 h))),
   )

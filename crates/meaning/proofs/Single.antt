@@ -1,16 +1,18 @@
 -- A single operation on l and r: what it is worth, and exactly when it is refused with which number.
 -- Assumes nothing.
-use mathlib.Core.Path.{_≡_, refl, ap, ap₂, sym, _∙_}
-use mathlib.Core.Bool.{Bool, true, false, cond, _&&_}
+use mathlib.Core.Path.{_≡_, refl, ap, sym, _∙_}
+use mathlib.Core.Bool.{Bool, true, false, _&&_}
 use Prim.Native.Nat.{ℕ, suc, _+_, _*_, _^_, _≤_, _<_}
 use native.Mathlib.Nat.{div-add-mod', mod-lt, pow-zero, pow-succ'}
 use native.Mathlib.Decide.{decLe}
 use native.Mathlib.Omega.{arith}
-use lib.Dec.{eqb, leb, ltb}
-use borrow.Author.Tests.{le-leb, lt-leb, eq-eqb, ne-eqb, lt-ltb, le-ltb}
+use lib.Dec.{leb}
+use borrow.Author.Tests.{le-leb, lt-leb}
 use Rattle.whole.proofs.Naturals.{log-of-zero, log-of-floor}
-use Rattle.shape.specs.Items.{sum, product, quotient, remainder, power, logarithm}
+use Rattle.shape.specs.Items.{Operation, sum, product, quotient, remainder, power, logarithm}
 use Rattle.meaning.specs.Meaning.{worth, refusalAt}
+use Rattle.meaning.proofs.Refusals.{BothFit, AsksFitting, ByZero, Passes}
+use Rattle.meaning.proofs.Refusals.{passing, overflowing, zero-divides, base-too-small}
 
 -- ---- worth
 
@@ -38,7 +40,7 @@ sum-and-product-never-refused M l r = (refl, refl)
 pub above-refused
     : (M l r : ℕ) → (l ≤ M → r ≤ M → ⊥) →
     (refusalAt M quotient l r ≡ 3) × (refusalAt M remainder l r ≡ 3) × (refusalAt M power l r ≡ 3) × (refusalAt M logarithm l r ≡ 3)
-above-refused M l r h = (by-divisor, by-divisor, ap (λ t. cond t 0 3) one-above, ap (λ t. cond t (cond (ltb l 2) 2 0) 3) one-above)
+above-refused M l r h = (three quotient tt, three remainder tt, three power tt, three logarithm tt)
   where
     and-false : (t : Bool) → t && false ≡ false
     and-false true = refl
@@ -47,33 +49,37 @@ above-refused M l r h = (by-divisor, by-divisor, ap (λ t. cond t 0 3) one-above
     one-above : leb l M && leb r M ≡ false
     one-above =
         elim (decLe l M) [
-          | yes p ↦ ap (λ t. leb l M && t) (lt-leb r M (elim (decLe r M) [ yes q ↦ absurd (h p q) | no n ↦ omega arith ])) ∙ and-false (leb l M)
+          | yes p ↦
+              let over : M < r = elim (decLe r M) [ yes q ↦ absurd (h p q) | no n ↦ omega arith ] in
+              ap (λ t. leb l M && t) (lt-leb r M over) ∙ and-false (leb l M)
           | no n ↦ ap (λ t. t && leb r M) (lt-leb l M (omega arith))
         ]
 
-    by-divisor : refusalAt M quotient l r ≡ 3
-    by-divisor = ap (λ t. cond t (cond (eqb r 0) 1 0) 3) one-above
+    three : (o : Operation) → AsksFitting o → refusalAt M o l r ≡ 3
+    three o a = overflowing o (leb l M) (leb r M) l r (a, one-above)
 
 -- where both fit: 1 for a divisor 0, 2 for a base below 2, and no other refusal
 module _ (M l r : ℕ) (p : l ≤ M) (q : r ≤ M) where
-  fits : leb l M && leb r M ≡ true
-  fits = ap₂ (λ s t. s && t) (le-leb l M p) (le-leb r M q)
+  both-fit : BothFit (leb l M) (leb r M)
+  both-fit = (le-leb l M p, le-leb r M q)
 
-  -- a test of l and r that gives a refusal's number n
-  tested : (n : ℕ) {t u : Bool} → t ≡ u → cond (leb l M && leb r M) (cond t n 0) 3 ≡ cond u n 0
-  tested n e = ap₂ (λ s t. cond s (cond t n 0) 3) fits e
+  one : (o : Operation) → ByZero o r → refusalAt M o l r ≡ 1
+  one o z = zero-divides o (leb l M) (leb r M) l r z both-fit
+
+  none : (o : Operation) → Passes o (leb l M) (leb r M) l r → refusalAt M o l r ≡ 0
+  none o = passing o (leb l M) (leb r M) l r
 
   pub divisor-zero-refused : r ≡ 0 → (refusalAt M quotient l r ≡ 1) × (refusalAt M remainder l r ≡ 1)
-  divisor-zero-refused e = (tested 1 (eq-eqb r 0 e), tested 1 (eq-eqb r 0 e))
+  divisor-zero-refused e = (one quotient e, one remainder e)
 
   pub divisor-not-refused : (r ≡ 0 → ⊥) → (refusalAt M quotient l r ≡ 0) × (refusalAt M remainder l r ≡ 0)
-  divisor-not-refused n = (tested 1 (ne-eqb r 0 n), tested 1 (ne-eqb r 0 n))
+  divisor-not-refused n = (none quotient (both-fit, n), none remainder (both-fit, n))
 
   pub power-not-refused : refusalAt M power l r ≡ 0
-  power-not-refused = ap (λ t. cond t 0 3) fits
+  power-not-refused = none power both-fit
 
   pub base-below-two-refused : l < 2 → refusalAt M logarithm l r ≡ 2
-  base-below-two-refused h = tested 2 (lt-ltb l 2 h)
+  base-below-two-refused h = base-too-small logarithm (leb l M) (leb r M) l r h both-fit
 
   pub base-not-refused : 2 ≤ l → refusalAt M logarithm l r ≡ 0
-  base-not-refused h = tested 2 (le-ltb l 2 h)
+  base-not-refused h = none logarithm (both-fit, h)

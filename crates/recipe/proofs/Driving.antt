@@ -24,75 +24,100 @@ use Rattle.recipe.specs.Run.{shown, ended, refusedAt, phaseNumbers}
 use Rattle.recipe.specs.Machine.{rest, valueOf, handOf, Shows, advancedOf, Ready, Advances, drivenOf}
 
 -- at the head of the loop: between items, with one still to do
-abbrev pub Drives : ℕ → List ℕ → List ℕ → ℕ → List ℕ → List ℕ → ℕ → ℕ → ℕ → Type 0
-Drives M ks ns a hand marks held d t =
-    (t ≤ a) × (d < length ks) × Shows held hand marks × Good M held (drop d (items ks ns))
-    × (rest M a (going t d (handOf held hand marks) Between (drop d (items ks ns))) ≡ after M a (start (items ks ns)))
+pub record Drives (M : ℕ) (ks ns : List ℕ) (a : ℕ) (hand marks : List ℕ) (held d t : ℕ) : Type 0 where
+  pub allowed : t ≤ a
+  pub more : d < length ks
+  pub shows : Shows held hand marks
+  pub good : Good M held (drop d (items ks ns))
+  pub leads : rest M a (going t d (handOf held hand marks) Between (drop d (items ks ns))) ≡ after M a (start (items ks ns))
 
-module _ (M : ℕ) (ks ns : List ℕ) (a : ℕ) (same : length ks ≡ length ns) where
-  pub begins-driving : (hand marks : List ℕ) → 0 < length ks → Shows 0 hand marks → Good M 0 (items ks ns) → Drives M ks ns a hand marks 0 0 0
-  begins-driving hand marks h s g = let e : a - 0 ≡ a = omega arith in (omega arith, h, s, g, ap (λ k. after M k (start (items ks ns))) e)
+pub begins-driving
+    : (M : ℕ) (ks ns : List ℕ) (a : ℕ) (hand marks : List ℕ) → 0 < length ks → Shows 0 hand marks → Good M 0 (items ks ns) →
+    Drives M ks ns a hand marks 0 0 0
+begins-driving M ks ns a hand marks h s g =
+    let e : a - 0 ≡ a = omega arith in
+    record { allowed = omega arith; more = h; shows = s; good = g; leads = ap (λ k. after M k (start (items ks ns))) e }
 
-  -- the allowance is spent
-  stopped-shown : (hand marks : List ℕ) (held d t : ℕ) (p : Phase) → a ≤ t → d < length ks → Shows held hand marks →
-      rest M a (going t d (handOf held hand marks) p (drop d (items ks ns))) ≡ after M a (start (items ks ns)) →
-      drivenOf hand marks (Stopped (record { done = d; phase = p }) t) ≡ shown (after M a (start (items ks ns)))
-  unfolding after
-  stopped-shown hand marks held d t p h m s l =
-      let e : a - t ≡ 0 = omega arith in
-      ap₂ (λ n m. record { answer = refusedAt 20 d; steps = t; done = d; marks = m; numbers = n; phase = phaseNumbers p }) (s .1) (s .2)
-      ∙ ap (λ xs. shown (going t d (handOf held hand marks) p xs)) (sym (items-at ks ns d m (omega arith)))
-      ∙ ap shown (ap (λ k. after M k (going t d (handOf held hand marks) p (drop d (items ks ns)))) (sym e) ∙ l)
+-- the allowance is spent
+stopped-shown
+    : (M : ℕ) (ks ns : List ℕ) (a : ℕ) (hand marks : List ℕ) (held d t : ℕ) (p : Phase) → length ks ≡ length ns → a ≤ t → d < length ks →
+    Shows held hand marks → rest M a (going t d (handOf held hand marks) p (drop d (items ks ns))) ≡ after M a (start (items ks ns)) →
+    drivenOf hand marks (Stopped (record { done = d; phase = p }) t) ≡ shown (after M a (start (items ks ns)))
+unfolding after
+stopped-shown M ks ns a hand marks held d t p same h m s l =
+    let e : a - t ≡ 0 = omega arith in
+    ap₂ (λ n m. record { answer = refusedAt 20 d; steps = t; done = d; marks = m; numbers = n; phase = phaseNumbers p }) (s .1) (s .2)
+    ∙ ap (λ xs. shown (going t d (handOf held hand marks) p xs)) (sym (items-at ks ns d m (omega arith)))
+    ∙ ap shown (ap (λ k. after M k (going t d (handOf held hand marks) p (drop d (items ks ns)))) (sym e) ∙ l)
 
-  module _ (hand marks : List ℕ) (held d t : ℕ) (drives : Drives M ks ns a hand marks held d t) where
-    pub between-shown : a ≤ t → drivenOf hand marks (Stopped (record { done = d; phase = Between }) t) ≡ shown (after M a (start (items ks ns)))
-    between-shown h = stopped-shown hand marks held d t Between h (drives .1) (drives .2) (drives .4)
+pub between-shown
+    : {M : ℕ} {ks ns : List ℕ} {a : ℕ} {hand marks : List ℕ} {held d t : ℕ} → length ks ≡ length ns → Drives M ks ns a hand marks held d t → a ≤ t →
+    drivenOf hand marks (Stopped (record { done = d; phase = Between }) t) ≡ shown (after M a (start (items ks ns)))
+between-shown {M} {ks} {ns} {a} {hand} {marks} {held} {d} {t} same drives h =
+    stopped-shown M ks ns a hand marks held d t Between same h (drives .more) (drives .shows) (drives .leads)
 
-    -- ---- an item
+-- ---- an item
 
-    module _ (hand' marks' : List ℕ) (r : Advanced) (advances : Advances M a (t + 1) (items ks ns) held d hand marks hand' marks' r) where
-      led : (s : Advanced) → r ≡ s → rest M a (advancedOf (t + 1) d (items ks ns) hand' marks' s) ≡ after M a (start (items ks ns))
-      led s e = ap (λ r. rest M a (advancedOf (t + 1) d (items ks ns) hand' marks' r)) (sym e) ∙ sym (advances .0 t (add-one t)) ∙ drives .4
+-- item d is advanced, with one step more than t taken to begin it, and this is the hand after it
+pub record Turned (M : ℕ) (ks ns : List ℕ) (a d t : ℕ) (hand marks : List ℕ) (r : Advanced) : Type 0 where
+  pub same : length ks ≡ length ns
+  pub more : d < length ks
+  pub leads : rest M a (advancedOf (t + 1) d (items ks ns) hand marks r) ≡ after M a (start (items ks ns))
+  pub ready : Ready M a (t + 1) d (items ks ns) hand marks r
 
-      ready : (s : Advanced) → r ≡ s → Ready M a (t + 1) d (items ks ns) hand' marks' s
-      ready s e = subst (Ready M a (t + 1) d (items ks ns) hand' marks') e (advances .1)
+pub turn
+    : {M : ℕ} {ks ns : List ℕ} {a : ℕ} {hand marks hand' marks' : List ℕ} {held d t : ℕ} {r : Advanced} → length ks ≡ length ns →
+    Drives M ks ns a hand marks held d t → Advances M a (t + 1) (items ks ns) held d hand marks hand' marks' r → Turned M ks ns a d t hand' marks' r
+turn {t = t} same drives advances =
+    record { same = same; more = drives .more; leads = sym (advances .leads t (add-one t)) ∙ drives .leads; ready = advances .ready }
 
-      pub refused-shown : (c : Refusal) → r ≡ advanced.Refused c → ended (refusedAt (numberOf c) d) (t + 1) ≡ shown (after M a (start (items ks ns)))
-      refused-shown c e = ap shown (led (advanced.Refused c) e)
+module _ {M : ℕ} {ks ns : List ℕ} {a d t : ℕ} {hand marks : List ℕ} {r : Advanced} (turned : Turned M ks ns a d t hand marks r) where
+  -- the same of the case that the answer is
+  led : (s : Advanced) → r ≡ s → rest M a (advancedOf (t + 1) d (items ks ns) hand marks s) ≡ after M a (start (items ks ns))
+  led s e = ap (λ r. rest M a (advancedOf (t + 1) d (items ks ns) hand marks r)) (sym e) ∙ turned .leads
 
-      pub within-shown : (n : ℕ) (p : Phase) (s : ℕ) → r ≡ advanced.Within n p s →
-          drivenOf hand' marks' (Stopped (record { done = d; phase = p }) s) ≡ shown (after M a (start (items ks ns)))
-      within-shown n p s e =
-          let w = ready (advanced.Within n p s) e in
-          let h = w .1 in
-          stopped-shown hand' marks' n d s p (omega arith) (drives .1) (w .0) (led (advanced.Within n p s) e)
+  ready : (s : Advanced) → r ≡ s → Ready M a (t + 1) d (items ks ns) hand marks s
+  ready s e = subst (Ready M a (t + 1) d (items ks ns) hand marks) e (turned .ready)
 
-      module _ (n s : ℕ) (e : r ≡ advanced.Done n s) where
-        pub more-taken : t < s
-        more-taken = let h = ready (advanced.Done n s) e .2 in omega arith
+  pub refused-shown : {c : Refusal} → r ≡ advanced.Refused c → ended (refusedAt (numberOf c) d) (t + 1) ≡ shown (after M a (start (items ks ns)))
+  refused-shown {c} e = ap shown (led (advanced.Refused c) e)
 
-        pub drives-on : (d + 1 ≡ length ks → ⊥) → Drives M ks ns a hand' marks' n (d + 1) s
-        drives-on m =
-            let w = ready (advanced.Done n s) e in
-            let l = drives .1 in
-            let i = sym (add-one d) in (
-              w .3,
-              omega arith,
-              w .0,
-              subst (λ d. Good M n (drop d (items ks ns))) i (w .1),
-              ap (λ d. rest M a (going s d (handOf n hand' marks') Between (drop d (items ks ns)))) (add-one d) ∙ led (advanced.Done n s) e,
-            )
+  pub within-shown
+      : {n : ℕ} {p : Phase} {s : ℕ} → r ≡ advanced.Within n p s →
+      drivenOf hand marks (Stopped (record { done = d; phase = p }) s) ≡ shown (after M a (start (items ks ns)))
+  within-shown {n} {p} {s} e =
+      let w = ready (advanced.Within n p s) e in
+      let h = w .1 in
+      stopped-shown M ks ns a hand marks n d s p (turned .same) (omega arith) (turned .more) (w .0) (led (advanced.Within n p s) e)
 
-        module _ (last : d + 1 ≡ length ks) where
-          nothing-left : drop (suc d) (items ks ns) ≡ []
-          nothing-left = let h : length (items ks ns) ≤ suc d = omega (arith, length-items ks ns same) in drop-of-length-le (items ks ns) h
+  module _ {n s : ℕ} (e : r ≡ advanced.Done n s) where
+    pub more-taken : t < s
+    more-taken = let h = ready (advanced.Done n s) e .2 in omega arith
 
-          -- one value is on hand
-          one-left : n ≡ 1
-          one-left = subst (Good M n) nothing-left (ready (advanced.Done n s) e .1)
+    pub drives-on : (d + 1 ≡ length ks → ⊥) → Drives M ks ns a hand marks n (d + 1) s
+    drives-on m =
+        let w = ready (advanced.Done n s) e in
+        let l = turned .more in
+        record {
+          allowed = w .3;
+          more = omega arith;
+          shows = w .0;
+          good = subst (λ d. Good M n (drop d (items ks ns))) (sym (add-one d)) (w .1);
+          leads = ap (λ d. rest M a (going s d (handOf n hand marks) Between (drop d (items ks ns)))) (add-one d) ∙ led (advanced.Done n s) e;
+        }
 
-          pub finished-shown : (v : Value) → v ≡ valueOf (getD hand' 0 0) (getD marks' 0 0) → ended (given v) s ≡ shown (after M a (start (items ks ns)))
-          finished-shown v q =
-              ap (λ v. ended (given v) s) q ∙ ap (λ n. ended (given (top (handOf n hand' marks'))) s) (sym one-left)
-              ∙ ap shown (sym (ended-stays M (a - s) (going s (suc d) (handOf n hand' marks') Between []) tt)
-              ∙ ap (λ xs. rest M a (going s (suc d) (handOf n hand' marks') Between xs)) (sym nothing-left) ∙ led (advanced.Done n s) e)
+    module _ (last : d + 1 ≡ length ks) where
+      nothing-left : drop (suc d) (items ks ns) ≡ []
+      nothing-left =
+          let h : length (items ks ns) ≤ suc d = omega (arith, length-items ks ns (turned .same)) in
+          drop-of-length-le (items ks ns) h
+
+      -- one value is on hand
+      one-left : n ≡ 1
+      one-left = subst (Good M n) nothing-left (ready (advanced.Done n s) e .1)
+
+      pub finished-shown : {v : Value} → v ≡ valueOf (getD hand 0 0) (getD marks 0 0) → ended (given v) s ≡ shown (after M a (start (items ks ns)))
+      finished-shown q =
+          ap (λ v. ended (given v) s) q ∙ ap (λ n. ended (given (top (handOf n hand marks))) s) (sym one-left)
+          ∙ ap shown (sym (ended-stays M (a - s) (going s (suc d) (handOf n hand marks) Between []) tt)
+          ∙ ap (λ xs. rest M a (going s (suc d) (handOf n hand marks) Between xs)) (sym nothing-left) ∙ led (advanced.Done n s) e)

@@ -1,6 +1,5 @@
 -- The laws on the run, each file standing on those above it. `Promises` states what the runner promises.
 pub mod Places
-pub mod Outcomes
 pub mod Going
 pub mod Landing
 pub mod Advancing

@@ -1,55 +1,26 @@
--- How the code's parts stand for the parts of a run: its outcomes, its hand of numbers and marks, its state. Only contracts of private functions speak of
--- this; what a caller is promised is in `Run`.
+-- How the code's parts stand for the parts of a run: its hand of numbers and marks, its state. Only contracts of private
+-- functions speak of this; what a caller is promised is in `Run`.
 -- Assumes nothing.
 use mathlib.Core.Path.{_≡_}
 use mathlib.Core.Bool.{cond}
 use mathlib.Core.List.{List, [], _∷_}
-use Prim.Native.Nat.{ℕ, zero, suc, _+_, _-_, _^_, _≤_, _<_}
+use Prim.Native.Nat.{ℕ, zero, suc, _-_, _≤_, _<_}
 use lib.Dec.{eqb}
-use lib.ListN.{getD, drop}
+use lib.ListN.{length, getD, drop}
 use Rattle.checked.specs.declared.types.Checked64.the-variants.{Fits, Overflowed}
 use Rattle.checked.specs.Value.{Value}
 use Rattle.checked.specs.Paper.{given, numberOf}
-use Rattle.shape.specs.Items.{Operation, Kind, operation, Item}
+use Rattle.shape.specs.Items.{Operation, Kind, operation, Item, items}
 use Rattle.shape.specs.Shape.{mostOnHand, Good}
-use Rattle.steps.specs.declared.types.Phase.{Phase}
-use Rattle.steps.specs.declared.types.Phase.the-variants.{Between, InPower, InLogarithm}
+use Rattle.steps.specs.declared.types.Phase.the-variants.{Between}
 use Rattle.steps.specs.Steps as steps
-use Rattle.recipe.specs.declared.types.Outcome.{Outcome}
-use Rattle.recipe.specs.declared.types.Outcome.the-variants as outcomes
-use Rattle.recipe.specs.declared.types.Reached.{Reached}
-use Rattle.recipe.specs.declared.types.Reached.the-variants as reached
+use Rattle.operation.specs.declared.types.Reached.{Reached}
+use Rattle.operation.specs.Work.{Reach, reachOf}
 use Rattle.recipe.specs.declared.types.Advanced.{Advanced}
 use Rattle.recipe.specs.declared.types.Advanced.the-variants as advanced
 use Rattle.recipe.specs.declared.types.Driven.{Driven}
 use Rattle.recipe.specs.declared.types.Driven.the-variants as driven
 use Rattle.recipe.specs.Run.{Shown, markOf, numberIn, places, phaseNumbers, ended, refusedAt}
-
--- ---- a step of an item
-
-abbrev pub outcome : Outcome → steps.Outcome
-outcome (outcomes.Value v) = steps.value v
-outcome (outcomes.Within p) = steps.within p
-outcome (outcomes.Refused r) = steps.fails (numberOf r)
-
--- o is what an operation of the kind begins with, if the kind is an operation
-abbrev pub Begins : ℕ → Kind → Value → Value → steps.Outcome → Type 0
-Begins M k a b o = (p : Operation) → k ≡ operation p → o ≡ steps.begun M p a b
-
--- a logarithm's numbers never wrap, and it never divides by 0
-abbrev pub SoundLogarithm : ℕ → ℕ → ℕ → Type 0
-SoundLogarithm base left count = (1 < base) × (count + left < 2 ^ 64)
-
--- an item's phase is that of a power or of a logarithm
-abbrev pub Sound : Phase → Type 0
-Sound Between = ⊥
-Sound (InPower p) = Unit {0}
-Sound (InLogarithm q) = SoundLogarithm (q .base) (q .left) (q .count) × (q .base ≤ q .left)
-
-abbrev pub SoundOutcome : Outcome → Type 0
-SoundOutcome (outcomes.Value v) = Unit {0}
-SoundOutcome (outcomes.Within p) = Sound p
-SoundOutcome (outcomes.Refused r) = Unit {0}
 
 -- ---- as far as an allowance brings an item
 
@@ -64,24 +35,22 @@ placed t d hand x xs (steps.value v) = steps.going t (suc d) (v ∷ hand) Betwee
 placed t d hand x xs (steps.within p) = steps.going t d hand p (x ∷ xs)
 placed t d hand x xs (steps.fails code) = steps.refused t d code
 
+-- how far it came, in the state
+abbrev pub placedAs : ℕ → List Value → Item → List Item → Reach → steps.State
+placedAs d hand x xs w = placed (w .taken) d hand x xs (w .outcome)
+
 -- what was reached, in the state; the item's first step is the last of `from`
 abbrev pub reachedOf : ℕ → ℕ → List Value → Item → List Item → Reached → steps.State
-reachedOf from d hand x xs (reached.Value v t) = placed t d hand x xs (steps.value v)
-reachedOf from d hand x xs (reached.Within p t) = placed t d hand x xs (steps.within p)
-reachedOf from d hand x xs (reached.Refused r) = placed from d hand x xs (steps.fails (numberOf r))
-
--- what is left of the allowance a leads from what was reached to where it leads from the outcome o after `from` steps
-abbrev pub Leads : ℕ → ℕ → ℕ → steps.Outcome → Reached → Type 0
-Leads M a from o r = (d : ℕ) (hand : List Value) (x : Item) (xs : List Item) → rest M a (placed from d hand x xs o) ≡ rest M a (reachedOf from d hand x xs r)
+reachedOf from d hand x xs r = placedAs d hand x xs (reachOf from r)
 
 -- no more steps are taken than the allowance a has, `from` among them, and an item stops before its end only where all are taken
-abbrev pub Keeps : ℕ → ℕ → Reached → Type 0
-Keeps a from (reached.Value v t) = (from ≤ t) × (t ≤ a)
-Keeps a from (reached.Within p t) = t ≡ a
-Keeps a from (reached.Refused r) = Unit {0}
+abbrev pub Kept : ℕ → ℕ → ℕ → steps.Outcome → Type 0
+Kept a from t (steps.value v) = (from ≤ t) × (t ≤ a)
+Kept a from t (steps.within p) = t ≡ a
+Kept a from t (steps.fails code) = Unit {0}
 
-abbrev pub GoesOn : ℕ → ℕ → ℕ → steps.Outcome → Reached → Type 0
-GoesOn M a from o r = Leads M a from o r × Keeps a from r
+abbrev pub Keeps : ℕ → ℕ → Reached → Type 0
+Keeps a from r = Kept a from (reachOf from r .taken) (reachOf from r .outcome)
 
 -- ---- the hand
 
@@ -111,27 +80,36 @@ Ready M a from d zs hand marks (advanced.Done held t) = Shows held hand marks ×
 Ready M a from d zs hand marks (advanced.Within held p t) = Shows held hand marks × (t ≡ a)
 Ready M a from d zs hand marks (advanced.Refused r) = Unit {0}
 
--- ---- what the code promises of an item, with the hand before and after it
+-- ---- what the code asks and promises of an item, with the hand before and after it
 
 -- what was reached is in the state, once the item has `held` values under it on hand
-abbrev pub Lands : ℕ → List ℕ → List ℕ → List ℕ → List ℕ → Reached → Advanced → Type 0
-Lands held hand marks hand' marks' o r =
-    ((from d : ℕ) (zs : List Item) (x : Item) → drop d zs ≡ x ∷ drop (suc d) zs →
-    advancedOf from d zs hand' marks' r ≡ reachedOf from d (handOf held hand marks) x (drop (suc d) zs) o)
-    × ((M a from d : ℕ) (zs : List Item) → Keeps a from o → Good M (suc held) (drop (suc d) zs) → Ready M a from d zs hand' marks' r)
+pub record Lands (held : ℕ) (hand marks hand' marks' : List ℕ) (o : Reached) (r : Advanced) : Type 0 where
+  pub lands
+      : (from d : ℕ) (zs : List Item) (x : Item) → drop d zs ≡ x ∷ drop (suc d) zs →
+      advancedOf from d zs hand' marks' r ≡ reachedOf from d (handOf held hand marks) x (drop (suc d) zs) o
+  pub ready : (M a from d : ℕ) (zs : List Item) → Keeps a from o → Good M (suc held) (drop (suc d) zs) → Ready M a from d zs hand' marks' r
 
 -- an operation of the kind is begun with the last of `from` steps
-abbrev pub Operates : ℕ → ℕ → ℕ → Kind → ℕ → List ℕ → List ℕ → List ℕ → List ℕ → Advanced → Type 0
-Operates M a from k held hand marks hand' marks' r =
-    ((t d : ℕ) (zs : List Item) (x : Item) (p : Operation) → from ≡ suc t → drop d zs ≡ x ∷ drop (suc d) zs → k ≡ operation p →
-    rest M a (steps.operating M t d (handOf held hand marks) p x (drop (suc d) zs)) ≡ rest M a (advancedOf from d zs hand' marks' r))
-    × ((d : ℕ) (zs : List Item) → Good M (held - 1) (drop (suc d) zs) → Ready M a from d zs hand' marks' r)
+pub record Operates (M a from : ℕ) (k : Kind) (held : ℕ) (hand marks hand' marks' : List ℕ) (r : Advanced) : Type 0 where
+  pub leads
+      : (t d : ℕ) (zs : List Item) (x : Item) (p : Operation) → from ≡ suc t → drop d zs ≡ x ∷ drop (suc d) zs → k ≡ operation p →
+      rest M a (steps.operating M t d (handOf held hand marks) p x (drop (suc d) zs)) ≡ rest M a (advancedOf from d zs hand' marks' r)
+  pub ready : (d : ℕ) (zs : List Item) → Good M (held - 1) (drop (suc d) zs) → Ready M a from d zs hand' marks' r
+
+-- item d comes next, and the last of `from` steps is there to begin it
+pub record AtItem (M a from : ℕ) (ks ns : List ℕ) (held d : ℕ) (hand marks : List ℕ) : Type 0 where
+  pub same : length ks ≡ length ns
+  pub more : d < length ks
+  pub allowed : from ≤ a
+  pub shown : Shows held hand marks
+  pub good : Good M held (drop d (items ks ns))
 
 -- item d is begun with the last of `from` steps
-abbrev pub Advances : ℕ → ℕ → ℕ → List Item → ℕ → ℕ → List ℕ → List ℕ → List ℕ → List ℕ → Advanced → Type 0
-Advances M a from zs held d hand marks hand' marks' r =
-    ((t : ℕ) → from ≡ suc t → rest M a (steps.going t d (handOf held hand marks) Between (drop d zs)) ≡ rest M a (advancedOf from d zs hand' marks' r))
-    × Ready M a from d zs hand' marks' r
+pub record Advances (M a from : ℕ) (zs : List Item) (held d : ℕ) (hand marks hand' marks' : List ℕ) (r : Advanced) : Type 0 where
+  pub leads
+      : (t : ℕ) → from ≡ suc t →
+      rest M a (steps.going t d (handOf held hand marks) Between (drop d zs)) ≡ rest M a (advancedOf from d zs hand' marks' r)
+  pub ready : Ready M a from d zs hand' marks' r
 
 -- ---- the end
 

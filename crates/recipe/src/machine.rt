@@ -1,23 +1,22 @@
 // The machine: item by item, as far as the allowance brings it.
-use crate::begin::begin;
 use crate::hand::put;
 use crate::hand::take;
 use crate::hand::value_of;
 use crate::types::Advanced;
 use crate::types::Driven;
-use crate::types::Reached;
 use crate::types::State;
-use crate::within::go_on;
 use checked::types::Checked64;
+use operation::types::Reached;
+use operation::work::work;
 use steps::types::Phase;
 ghost use mathlib.Core.Path.{_≡_};
 ghost use Prim.Native.Nat.{_≤_, _<_};
-ghost use lib.ListN.{length, drop};
+ghost use lib.ListN.{length};
 ghost use Rattle.shape.specs.Items.{kindOf, items};
 ghost use Rattle.shape.specs.Shape.{Good};
 ghost use Rattle.steps.specs.Steps as steps;
 ghost use Rattle.recipe.specs.Run.{shown};
-ghost use Rattle.recipe.specs.Machine.{Shows, Lands, Operates, Advances, drivenOf};
+ghost use Rattle.recipe.specs.Machine.{Shows, Lands, Operates, AtItem, Advances, drivenOf};
 
 // An item's end in the state: its value is put on the hand.
 fn land(hand: &mut [u64; 32], marks: &mut [u8; 32], held: usize, reached: Reached) -> Advanced
@@ -53,7 +52,7 @@ fn operate(
         hand,
         marks,
         held - 2,
-        go_on(limit, begin(limit, kind, left, right), from, allowance),
+        work(limit, kind, left, right, from, allowance),
     )
 }
 
@@ -69,8 +68,7 @@ fn advance(
     from: u64,
     allowance: u64,
 ) -> Advanced
-    requires { ⌜ (length (now kinds) ≡ length (now numbers)) × (done < length (now kinds)) × (from ≤ allowance) ⌝ }
-    requires { ⌜ Shows held (now hand) (now marks) × Good limit held (drop done (items (now kinds) (now numbers))) ⌝ }
+    requires { ⌜ AtItem limit allowance from (now kinds) (now numbers) held done (now hand) (now marks) ⌝ }
     ensures { λ r. ⌜ Advances limit allowance from (items (now (kinds .entry)) (now (numbers .entry))) held done
         (now (hand .entry)) (now (marks .entry)) (now (hand .exit)) (now (marks .exit)) r ⌝ }
 {

@@ -20,28 +20,14 @@ pub struct Run {
     pub phase: Phase,
 }
 
-// What a step of an item comes to: its value, more steps of it, or its refusal.
-pub enum Outcome {
-    Value(Checked64),
-    Within(Phase),
-    Refused(Refusal),
-}
-
 // A run's state beside its hand: how many items are wholly done, and the phase.
 pub struct State {
     pub done: usize,
     pub phase: Phase,
 }
 
-// How far an allowance brings an item, and after how many of the run's steps: to its value, to a phase where the allowance is
-// spent, or to its refusal, which comes with the item's first step.
-pub enum Reached {
-    Value(Checked64, u64),
-    Within(Phase, u64),
-    Refused(Refusal),
-}
-
-// The same in the run's state, and after as many steps: how many values are on hand, with the item's own where it is done.
+// How far an allowance brings an item, in the run's state, and after how many of its steps: how many values are on hand, with the
+// item's own where it is done. A refusal comes with the item's first step.
 pub enum Advanced {
     Done(usize, u64),
     Within(usize, Phase, u64),

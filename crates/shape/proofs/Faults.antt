@@ -1,21 +1,24 @@
 -- A recipe is refused at its first fault, and nowhere else; and which numbers there can be.
 -- Assumes nothing.
 use mathlib.Core.Path.{_≡_, refl, ap, sym, _∙_, subst}
-use mathlib.Core.Logic.{inl, inr, ⊎-elim}
+use mathlib.Core.Logic.{_↔_, inl, inr, ⊎-elim}
 use mathlib.Core.Bool.{Bool, true, false, cond}
 use mathlib.Core.List.{List, [], _∷_}
 use Prim.Native.Nat.{ℕ, zero, suc, _+_, _≤_, _<_, zero-le, suc-le-suc}
-use native.Mathlib.Nat.{not-suc-le-zero, le-of-suc-le-suc, add-zero, add-suc, suc-add}
+use native.Mathlib.Nat.{not-suc-le-zero, le-of-suc-le-suc, add-zero, zero-add, add-suc, suc-add}
 use native.Mathlib.Decide.{ℕ-discrete}
 use native.Mathlib.Omega.{arith}
 use borrow.Author.Tests.{ne-eqb}
 use lib.Dec.{eqb, ltb}
 use lib.ListN.{length, getD}
 use lib.Seq.{drop-cons, drop-length}
+use Rattle.places.specs.Faults.{atFirstFault, NoFaultBefore}
+use Rattle.places.proofs.Faults.{walk, faulty-at, faultless, answer-at, answer-none, refused-exactly}
 use Rattle.shape.specs.Items.{Kind, literal, operation, unknown, Item, itemOf}
-use Rattle.shape.specs.Shape.{refused, mostOnHand, faultOf, heldAfter, endFault, shapeFrom}
+use Rattle.shape.specs.Shape.{refused, wellFormed, mostOnHand, faultOf, heldAfter, endFault, shapeFrom, Good}
 use Rattle.shape.specs.Faults.{heldBefore, faultHere, faultAt, FirstFault, NoneOrFrom}
-use Rattle.shape.proofs.Shapes.{operation-good, unknown-not-good, end-good, item-passes, item-refused, end-passes, end-refused}
+use Rattle.shape.proofs.Shapes.{operation-good, unknown-not-good, end-good}
+use Rattle.shape.proofs.Shapes.{item-passes, item-refused, end-passes, end-refused, good-from}
 
 -- a range within another
 wider : (a b c : ℕ) → 8 ≤ a → b ≤ 13 → NoneOrFrom a b c → NoneOrFrom 8 13 c
@@ -24,49 +27,55 @@ wider a b c h k (inr p) = inr (omega arith, omega arith)
 
 -- ---- the first fault
 
-pub first-fault-refused
+first-fault-refused
     : (M i held : ℕ) (xs : List Item) (c j : ℕ) → (c ≡ 0 → ⊥) → FirstFault M held xs c j → shapeFrom M i held xs ≡ refused c (i + j)
 first-fault-refused M i held [] c zero n f =
     end-refused M i held (λ z. n (sym (f .1) ∙ z)) ∙ ap (λ c. refused c i) (f .1) ∙ ap (refused c) (sym (add-zero i))
-first-fault-refused M i held [] c (suc j) n f = absurd (not-suc-le-zero (f .0))
+first-fault-refused M i held [] c (suc j) n f = absurd (not-suc-le-zero (le-of-suc-le-suc (f .0)))
 first-fault-refused M i held (x ∷ xs) c zero n f =
     item-refused M i held x xs (λ z. n (sym (f .1) ∙ z)) ∙ ap (λ c. refused c i) (f .1) ∙ ap (refused c) (sym (add-zero i))
 first-fault-refused M i held (x ∷ xs) c (suc j) n f =
-    item-passes M i held x xs (f .2 0 (suc-le-suc zero-le)) ∙ first-fault-refused M (suc i) (heldAfter held (x .kind)) xs c j n (le-of-suc-le-suc (f .0), f .1, λ k h. f .2 (suc k) (suc-le-suc h)) ∙ ap (refused c) (suc-add i j ∙ sym (add-suc i j))
+    let later : FirstFault M (heldAfter held (x .kind)) xs c j =
+    (le-of-suc-le-suc (f .0), f .1, λ k h. f .2 (suc k) (suc-le-suc h)) in
+    item-passes M i held x xs (f .2 0 (suc-le-suc zero-le))
+    ∙ first-fault-refused M (suc i) (heldAfter held (x .kind)) xs c j n later
+    ∙ ap (refused c) (suc-add i j ∙ sym (add-suc i j))
 
--- a refused recipe has a first fault, and is refused with its number at its place
-pub first-fault-found
-    : (M i held : ℕ) (xs : List Item) →
-    (shapeFrom M i held xs .code ≡ 0 → ⊥) →
-    (c : ℕ) × (j : ℕ) × FirstFault M held xs c j × (shapeFrom M i held xs ≡ refused c (i + j))
-first-fault-found M i held [] n =
-    elim (ℕ-discrete (endFault held) 0) [
-      | yes h ↦ absurd (n (ap (λ v. v .code) (end-passes M i held (end-good held h))))
-      | no m ↦ (endFault held, 0, (zero-le, refl, λ k h. absurd (not-suc-le-zero h)), end-refused M i held m ∙ ap (refused (endFault held)) (sym (add-zero i)))
-    ]
-first-fault-found M i held (x ∷ xs) n =
-    elim (ℕ-discrete (faultOf M held (x .kind) (x .number)) 0) [
-      | yes h ↦
-          let s = item-passes M i held x xs h in
-          let r = first-fault-found M (suc i) (heldAfter held (x .kind)) xs (λ z. n (ap (λ v. v .code) s ∙ z)) in
-          (r .0, suc (r .1), (suc-le-suc (r .2 .0), r .2 .1, none-before M held x xs (r .1) h (r .2 .2)), s ∙ r .3 ∙ ap (refused (r .0)) (suc-add i (r .1) ∙ sym (add-suc i (r .1))))
-      | no m ↦ (
-        faultOf M held (x .kind) (x .number),
-        0,
-        (zero-le, refl, λ k h. absurd (not-suc-le-zero h)),
-        item-refused M i held x xs m ∙ ap (refused (faultOf M held (x .kind) (x .number))) (sym (add-zero i)),
-      )
-    ]
-  where
-    none-before
-        : (M held : ℕ) (x : Item) (xs : List Item) (j : ℕ) →
-        faultOf M held (x .kind) (x .number) ≡ 0 →
-        ((k : ℕ) → k < j → faultAt M (heldAfter held (x .kind)) xs k ≡ 0) →
-        (k : ℕ) →
-        k < suc j →
-        faultAt M held (x ∷ xs) k ≡ 0
-    none-before M held x xs j e f zero h = e
-    none-before M held x xs j e f (suc k) h = f k (le-of-suc-le-suc h)
+-- where no place has a fault, nothing is wrong
+faultless-good : (M held : ℕ) (xs : List Item) → NoFaultBefore (faultAt M held xs) (suc (length xs)) → Good M held xs
+faultless-good M held [] b = end-good held (b 0 (suc-le-suc zero-le))
+faultless-good M held (x ∷ xs) b =
+    (b 0 (suc-le-suc zero-le), faultless-good M (heldAfter held (x .kind)) xs (λ k h. b (suc k) (suc-le-suc h)))
+
+module _ (M : ℕ) (xs : List Item) where
+  -- so what is answered is what the earliest fault of all places gives
+  by-first-fault : shapeFrom M 0 0 xs ≡ atFirstFault (faultAt M 0 xs) (suc (length xs)) refused (wellFormed M)
+  by-first-fault =
+      let fault = faultAt M 0 xs in
+      let n = suc (length xs) in
+      elim (walk fault n) [
+        | faulty-at j m f ↦
+            first-fault-refused M 0 0 xs (fault j) j m f ∙ ap (refused (fault j)) (zero-add j)
+            ∙ sym (answer-at fault n refused (wellFormed M) (fault j) j m f)
+        | faultless b ↦
+            good-from M 0 0 xs (faultless-good M 0 xs b) ∙ sym (answer-none fault n refused (wellFormed M) b)
+      ]
+
+  -- a refusal is the first fault's, with its number at its place
+  pub refused-at-first-fault : (c j : ℕ) → (c ≡ 0 → ⊥) → (shapeFrom M 0 0 xs ≡ refused c j) ↔ FirstFault M 0 xs c j
+  refused-at-first-fault c j z =
+      let exactly =
+      refused-exactly (faultAt M 0 xs) (suc (length xs)) refused (wellFormed M) (λ v. v .code) (λ v. v .place)
+      (λ c i. refl) (λ c i. refl) refl c j z in
+      (λ e. exactly .0 (sym by-first-fault ∙ e), λ f. by-first-fault ∙ exactly .1 f)
+
+  -- what isn't well formed is refused at some place
+  pub refused-somewhere : (shapeFrom M 0 0 xs .code ≡ 0 → ⊥) → (c : ℕ) × (j : ℕ) × (shapeFrom M 0 0 xs ≡ refused c j)
+  refused-somewhere n =
+      elim (walk (faultAt M 0 xs) (suc (length xs))) [
+        | faulty-at j m f ↦ (faultAt M 0 xs j, j, refused-at-first-fault (faultAt M 0 xs j) j m .1 f)
+        | faultless b ↦ absurd (n (ap (λ v. v .code) (good-from M 0 0 xs (faultless-good M 0 xs b))))
+      ]
 
 -- ---- the numbers
 

@@ -6,7 +6,6 @@ use mathlib.Core.Logic.{_↔_, _⊎_, inl, inr, ⊎-elim}
 use mathlib.Core.Bool.{true, false}
 use mathlib.Core.List.{List}
 use Prim.Native.Nat.{ℕ, _+_, _≤_, _<_}
-use native.Mathlib.Nat.{zero-add}
 use native.Mathlib.Decide.{decLt}
 use native.Mathlib.Omega.{arith}
 use lib.ListN.{length}
@@ -16,7 +15,8 @@ use Rattle.shape.specs.Shape.{refused, wellFormed, endFault, shapeFrom, 
 use Rattle.shape.specs.Faults.{heldBefore, faultAt, FirstFault, OnlyEndFault, NoneOrFrom, Countable}
 use Rattle.shape.proofs.Items.{length-items}
 use Rattle.shape.proofs.Shapes.{known-widths, at-unequal, at-none, at-many, at-items, no-width, lengths-differ, miscounted, looked-at, at-unknown-width, at-known-width, stage, good-shape, shape-good}
-use Rattle.shape.proofs.Faults.{first-fault-refused, first-fault-found, numbers-at-item, fault-at-end, end-numbers, numbers-from, some-left}
+use Rattle.shape.proofs.Faults.{refused-at-first-fault, refused-somewhere}
+use Rattle.shape.proofs.Faults.{numbers-at-item, fault-at-end, end-numbers, numbers-from, some-left}
 
 -- the widths there are
 pub width-known-exactly : (W : ℕ) → (knownWidth W ≡ true) ↔ ((W ≡ 8) ⊎ ((W ≡ 16) ⊎ ((W ≡ 32) ⊎ (W ≡ 64))))
@@ -78,14 +78,11 @@ module _ (W : ℕ) (ks ns : List ℕ) where
   -- 8 to 13, with number c at place j, exactly when the items are looked at, place j has the fault c, and no place before it has one
   pub fault-refused-exactly
       : (c j : ℕ) → 8 ≤ c → (shapeOf W ks ns ≡ refused c j) ↔ (Countable W ks ns × FirstFault (limitOf W) 0 (items ks ns) c j)
-  fault-refused-exactly c j b = (only, λ p. looked (p .0) ∙ first-fault-refused (limitOf W) 0 0 (items ks ns) c j (λ z. omega arith) (p .1) ∙ ap (refused c) (zero-add j))
+  fault-refused-exactly c j b = (only, λ p. looked (p .0) ∙ at-first-fault .1 (p .1))
     where
-      at-place
-          : shapeFrom (limitOf W) 0 0 (items ks ns) ≡ refused c j → FirstFault (limitOf W) 0 (items ks ns) c j
-      at-place e =
-          let r = first-fault-found (limitOf W) 0 0 (items ks ns) (λ z. omega (arith, ap (λ v. v .code) e)) in
-          let s = sym (r .3) ∙ e in
-          subst (λ i. FirstFault (limitOf W) 0 (items ks ns) c i) (sym (zero-add (r .1)) ∙ ap (λ v. v .place) s) (subst (λ d. FirstFault (limitOf W) 0 (items ks ns) d (r .1)) (ap (λ v. v .code) s) (r .2))
+      at-first-fault
+          : (shapeFrom (limitOf W) 0 0 (items ks ns) ≡ refused c j) ↔ FirstFault (limitOf W) 0 (items ks ns) c j
+      at-first-fault = refused-at-first-fault (limitOf W) (items ks ns) c j (λ z. omega arith)
 
       only : shapeOf W ks ns ≡ refused c j → Countable W ks ns × FirstFault (limitOf W) 0 (items ks ns) c j
       only e =
@@ -93,7 +90,7 @@ module _ (W : ℕ) (ks ns : List ℕ) where
             | no-width w s ↦ let f : ⊥ = omega (arith, ap (λ v. v .code) (sym s ∙ e)) in absurd f
             | lengths-differ w n s ↦ let f : ⊥ = omega (arith, ap (λ v. v .code) (sym s ∙ e)) in absurd f
             | miscounted w q o s ↦ let f : ⊥ = omega (arith, ap (λ v. v .code) (sym s ∙ e)) in absurd f
-            | looked-at w q h k s ↦ ((w, q, h, k), at-place (sym s ∙ e))
+            | looked-at w q h k s ↦ ((w, q, h, k), at-first-fault .0 (sym s ∙ e))
           ]
 
   -- 8 to 11 at an item's place; 12 and 13 at n, where no item has a fault and the end has this one
@@ -158,7 +155,8 @@ module _ (W : ℕ) (ks ns : List ℕ) where
         | lengths-differ w m s ↦ itself 6 0 s
         | miscounted w q o s ↦ itself 7 0 s
         | looked-at w q h k s ↦
-            let r = first-fault-found (limitOf W) 0 0 (items ks ns) (λ z. n (ap (λ v. v .code) s ∙ z)) in itself (r .0) (0 + r .1) (s ∙ r .3)
+            let r = refused-somewhere (limitOf W) (items ks ns) (λ z. n (ap (λ v. v .code) s ∙ z)) in
+            itself (r .0) (r .1) (s ∙ r .2)
       ]
     where
       itself : (c j : ℕ) → shapeOf W ks ns ≡ refused c j → shapeOf W ks ns ≡ refused (shapeOf W ks ns .code) (shapeOf W ks ns .place)

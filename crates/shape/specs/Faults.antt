@@ -1,4 +1,5 @@
--- A recipe's faults place by place, in which the promises say when a refusal is given. Place j is item j, and the place after the last item is the end.
+-- A recipe's faults place by place, in which the promises say when a refusal is given. Place j is item j, and the
+-- place after the last item is the end.
 -- Assumes nothing.
 use mathlib.Core.Path.{_≡_}
 use mathlib.Core.Logic.{_⊎_}
@@ -6,6 +7,7 @@ use mathlib.Core.Bool.{true}
 use mathlib.Core.List.{List, [], _∷_}
 use Prim.Native.Nat.{ℕ, zero, suc, _≤_, _<_}
 use lib.ListN.{length, drop}
+use Rattle.places.specs.Faults as faults
 use Rattle.shape.specs.Items.{Item}
 use Rattle.shape.specs.Shape.{faultOf, heldAfter, endFault, knownWidth, mostItems}
 
@@ -24,13 +26,13 @@ faultHere M held (x ∷ xs) = faultOf M held (x .kind) (x .number)
 abbrev pub faultAt : ℕ → ℕ → List Item → ℕ → ℕ
 faultAt M held xs j = faultHere M (heldBefore held xs j) (drop j xs)
 
--- place j is there, it has the fault c, and no place before it has one
+-- place j is there, it has the fault c, and no place before it has one; the end is a place too
 abbrev pub FirstFault : ℕ → ℕ → List Item → ℕ → ℕ → Type 0
-FirstFault M held xs c j = (j ≤ length xs) × (faultAt M held xs j ≡ c) × ((k : ℕ) → k < j → faultAt M held xs k ≡ 0)
+FirstFault M held xs c j = faults.FirstFault (faultAt M held xs) (suc (length xs)) c j
 
 -- the end, after n items, has the fault c, and no item has one
 abbrev pub OnlyEndFault : ℕ → List Item → ℕ → ℕ → Type 0
-OnlyEndFault M xs n c = (endFault (heldBefore 0 xs n) ≡ c) × ((k : ℕ) → k < n → faultAt M 0 xs k ≡ 0)
+OnlyEndFault M xs n c = (endFault (heldBefore 0 xs n) ≡ c) × faults.NoFaultBefore (faultAt M 0 xs) n
 
 -- no refusal, or one whose number is in this range
 abbrev pub NoneOrFrom : ℕ → ℕ → ℕ → Type 0

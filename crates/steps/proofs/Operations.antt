@@ -2,12 +2,12 @@
 -- two numbers come to.
 -- Assumes nothing.
 use mathlib.Core.Path.{_≡_, refl, ap, ap₂, sym, _∙_, subst}
-use mathlib.Core.Bool.{Bool, true, false, cond, _&&_}
+use mathlib.Core.Bool.{Bool, true, false, cond}
 use Prim.Native.Nat.{ℕ, _/_, _%_, _≤_}
 use native.Mathlib.Nat.{zero-add, div-le-self, mod-le}
 use native.Mathlib.Omega.{arith}
-use lib.Dec.{eqb, leb, ltb}
-use borrow.Author.Tests.{leb-true, ltb-false, eqb-true}
+use lib.Dec.{eqb, leb}
+use borrow.Author.Tests.{leb-true, eqb-true}
 use Rattle.whole.specs.logarithm.{log-of}
 use Rattle.checked.specs.declared.types.Checked64.the-variants.{Fits, Overflowed}
 use Rattle.checked.specs.Value.{Value, checkedOf, least}
@@ -18,6 +18,7 @@ use Rattle.checked.proofs.Standing.{sum-of-values, product-of-values}
 use Rattle.shape.specs.Items.{Operation, sum, product, quotient, remainder, power, logarithm}
 use Rattle.meaning.specs.Meaning.{worth, refusal, refusalAt}
 use Rattle.meaning.specs.Count.{further, furtherAt}
+use Rattle.meaning.proofs.Refusals.{BothFit, passed, only-fitting-heard}
 use Rattle.steps.specs.Steps.{Outcome, fails, fitting, entered, begun}
 use Rattle.steps.proofs.Outcomes.{Keeps}
 use Rattle.steps.proofs.Powers.{powering-keeps}
@@ -36,27 +37,14 @@ fitting-of M n = by-test (leb n M)
 least-of : (M n : ℕ) → leb n M ≡ true → least M (checkedOf M n) ≡ n
 least-of M n e = ap (least M) (sym (fits M n (leb-true n M e)))
 
--- where one doesn't fit, the refusal is the same whatever the numbers
-unheard : (o : Operation) (a b : Bool) (l r m n : ℕ) → (a && b) ≡ false → refusal o a b l r ≡ refusal o a b m n
-unheard sum a b l r m n e = refl
-unheard product a b l r m n e = refl
-unheard quotient a b l r m n e = ap (λ t. cond t (cond (eqb r 0) 1 0) 3) e ∙ sym (ap (λ t. cond t (cond (eqb n 0) 1 0) 3) e)
-unheard remainder a b l r m n e = ap (λ t. cond t (cond (eqb r 0) 1 0) 3) e ∙ sym (ap (λ t. cond t (cond (eqb n 0) 1 0) 3) e)
-unheard power a b l r m n e = refl
-unheard logarithm a b l r m n e = ap (λ t. cond t (cond (ltb l 2) 2 0) 3) e ∙ sym (ap (λ t. cond t (cond (ltb m 2) 2 0) 3) e)
-
--- so only the numbers of fitting operands matter
-heeded : (o : Operation) (a b : Bool) (l r m n : ℕ) → (a ≡ true → l ≡ m) → (b ≡ true → r ≡ n) → refusal o a b l r ≡ refusal o a b m n
-heeded o true true l r m n p q = ap₂ (refusal o true true) (p refl) (q refl)
-heeded o true false l r m n p q = unheard o true false l r m n refl
-heeded o false b l r m n p q = unheard o false b l r m n refl
-
 module _ (M : ℕ) (o : Operation) (l r : ℕ) where
   same-refusal
       : refusal o (fitting (checkedOf M l)) (fitting (checkedOf M r)) (least M (checkedOf M l)) (least M (checkedOf M r)) ≡ refusalAt M o l r
   same-refusal =
-      ap₂ (λ a b. refusal o a b (least M (checkedOf M l)) (least M (checkedOf M r))) (fitting-of M l) (fitting-of M r)
-      ∙ heeded o (leb l M) (leb r M) (least M (checkedOf M l)) (least M (checkedOf M r)) l r (least-of M l) (least-of M r)
+      let m = least M (checkedOf M l) in
+      let n = least M (checkedOf M r) in
+      ap₂ (λ a b. refusal o a b m n) (fitting-of M l) (fitting-of M r)
+      ∙ only-fitting-heard o (leb l M) (leb r M) m n l r (least-of M l) (least-of M r)
 
   on-refusal : ℕ → Outcome
   on-refusal n = elim (eqb n 0) [ true ↦ entered M o (checkedOf M l) (checkedOf M r) | false ↦ fails n ]
@@ -77,27 +65,22 @@ module _ (M : ℕ) (o : Operation) (l r : ℕ) where
 abbrev Worked : ℕ → ℕ → ℕ → Operation → Bool → Bool → Value → Value → Type 0
 Worked M l r o a b v w = refusal o a b l r ≡ 0 → Keeps M (worth o l r) (further o a b l r) (entered M o v w)
 
--- an operation that asks for fitting operands has them
-both-fit : (a b : Bool) (n : ℕ) → cond (a && b) n 3 ≡ 0 → (a ≡ true) × (b ≡ true)
-both-fit true true n h = (refl, refl)
-both-fit true false n h = let f : ⊥ = omega arith in absurd f
-both-fit false b n h = let f : ⊥ = omega arith in absurd f
-
-large-base : (b : Bool) → cond {A = ℕ} b 2 0 ≡ 0 → b ≡ false
-large-base true h = let f : ⊥ = omega arith in absurd f
-large-base false h = refl
-
 module _ (M l r : ℕ) where
   on-numbers : (o : Operation) → l ≤ M → r ≤ M → Worked M l r o true true (Fits l) (Fits r)
   on-numbers sum h k e = (refl, refl)
   on-numbers product h k e = (refl, refl)
   on-numbers quotient h k e = (fits M (l / r) (omega (arith, div-le-self l r)), refl)
   on-numbers remainder h k e = (fits M (l % r) (omega (arith, mod-le l r)), refl)
-  on-numbers power h k e = powering-keeps M (worth power l r) (checkedOf M 1) (Fits l) r (settled-at M 1 refl) (power-begins M l r refl (fits M l h))
+  on-numbers power h k e =
+      powering-keeps M (worth power l r) (checkedOf M 1) (Fits l) r (settled-at M 1 refl)
+      (power-begins M l r refl (fits M l h))
   on-numbers logarithm h k e =
-      let b = ltb-false l 2 (large-base (ltb l 2) e) in dividing-keeps M (log-of l r) l r 0 b (zero-add (log-of l r)) (omega (arith, log-at-most l r b))
+      let b = passed logarithm true true l r e .1 in
+      dividing-keeps M (log-of l r) l r 0 b (zero-add (log-of l r)) (omega (arith, log-at-most l r b))
 
-  on-fitting : (o : Operation) → (leb l M ≡ true) × (leb r M ≡ true) → Worked M l r o (leb l M) (leb r M) (checkedOf M l) (checkedOf M r)
+  on-fitting
+      : (o : Operation) → BothFit (leb l M) (leb r M) →
+      Worked M l r o (leb l M) (leb r M) (checkedOf M l) (checkedOf M r)
   on-fitting o (p, q) =
       let h = leb-true l M p in
       let k = leb-true r M q in
@@ -108,10 +91,10 @@ module _ (M l r : ℕ) where
   worked : (o : Operation) → Worked M l r o (leb l M) (leb r M) (checkedOf M l) (checkedOf M r)
   worked sum e = (sum-of-values M l r, refl)
   worked product e = (product-of-values M l r, refl)
-  worked quotient e = on-fitting quotient (both-fit (leb l M) (leb r M) (cond (eqb r 0) 1 0) e) e
-  worked remainder e = on-fitting remainder (both-fit (leb l M) (leb r M) (cond (eqb r 0) 1 0) e) e
-  worked power e = on-fitting power (both-fit (leb l M) (leb r M) 0 e) e
-  worked logarithm e = on-fitting logarithm (both-fit (leb l M) (leb r M) (cond (ltb l 2) 2 0) e) e
+  worked quotient e = on-fitting quotient (passed quotient (leb l M) (leb r M) l r e .0) e
+  worked remainder e = on-fitting remainder (passed remainder (leb l M) (leb r M) l r e .0) e
+  worked power e = on-fitting power (passed power (leb l M) (leb r M) l r e) e
+  worked logarithm e = on-fitting logarithm (passed logarithm (leb l M) (leb r M) l r e .0) e
 
   -- begun and not refused, it keeps to what l and r come to, with its further steps to go
   pub operation-keeps

@@ -7,7 +7,7 @@ use Prim.Native.Nat.{ℕ, zero, suc, _/_, _%_}
 use lib.Dec.{eqb, leb}
 use lib.ListN.{length}
 use Rattle.checked.specs.declared.types.Checked64.the-variants.{Fits}
-use Rattle.checked.specs.Value.{Value, isOverflowed, checkedOf, least, productOf}
+use Rattle.checked.specs.Value.{Value, isOverflowed, checkedOf, least, sumOf, productOf}
 use Rattle.shape.specs.Items.{Operation, sum, product, quotient, remainder, power, logarithm, Kind, literal, operation, unknown, Item}
 use Rattle.meaning.specs.Meaning.{worth, refusal, Meant, number, failed, meaning}
 use Rattle.meaning.specs.Count.{count}
@@ -45,14 +45,22 @@ logarithmStep base left count = dividing base (left / base) (suc count)
 abbrev pub fitting : Value → Bool
 fitting v = not (isOverflowed v)
 
--- a power and a logarithm whose operands both fit are worked out by further steps
+-- sums and products are those of checked values; a power and a logarithm whose operands both fit are worked out by
+-- further steps. With an overflowed operand these two are refused, so that no run reaches their last arms: they wait
+-- for the request that gives them an answer, No. 5
 abbrev pub entered : ℕ → Operation → Value → Value → Outcome
-entered M power a b = elim (fitting a && fitting b) [ true ↦ powering (checkedOf M 1) a (least M b) | false ↦ value (checkedOf M (worth power (least M a) (least M b))) ]
-entered M logarithm a b = elim (fitting a && fitting b) [ true ↦ dividing (least M a) (least M b) 0 | false ↦ value (checkedOf M (worth logarithm (least M a) (least M b))) ]
-entered M sum a b = value (checkedOf M (worth sum (least M a) (least M b)))
-entered M product a b = value (checkedOf M (worth product (least M a) (least M b)))
+entered M sum a b = value (sumOf M a b)
+entered M product a b = value (productOf M a b)
 entered M quotient a b = value (Fits (worth quotient (least M a) (least M b)))
 entered M remainder a b = value (Fits (worth remainder (least M a) (least M b)))
+entered M power a b = elim (fitting a && fitting b) [
+  | true ↦ powering (checkedOf M 1) a (least M b)
+  | false ↦ value (checkedOf M (worth power (least M a) (least M b)))
+]
+entered M logarithm a b = elim (fitting a && fitting b) [
+  | true ↦ dividing (least M a) (least M b) 0
+  | false ↦ value (checkedOf M (worth logarithm (least M a) (least M b)))
+]
 
 unfoldable pub begun : ℕ → Operation → Value → Value → Outcome
 begun M o a b =

@@ -2,22 +2,36 @@
 -- Assumes nothing.
 use native.Mathlib.Omega.{arith}
 use Prim.Native.Nat.{_-_}
-use Rattle.recipe.proofs.Driving.{Drives, begins-driving, between-shown, refused-shown, within-shown, more-taken, drives-on, finished-shown}
+use Rattle.recipe.proofs.Driving.{Drives, Turned, begins-driving, between-shown, turn, refused-shown, within-shown, more-taken, drives-on, finished-shown}
 use borrow.Author.Needs.{needs}
 use Rattle.recipe.proofs.machine.drive.Statement.{statement}
 use Rattle.recipe.proofs.machine.drive.Tie as tie
 
 abbrev Inv-loop : tie.InvT-loop
-Inv-loop limit kinds numbers allowance hand₀ marks₀ n held₀ done₀ taken₀ hand marks held done taken = Drives limit kinds numbers allowance hand marks held done taken
+Inv-loop limit kinds numbers allowance hand₀ marks₀ n held₀ done₀ taken₀ hand marks held done taken =
+    Drives limit kinds numbers allowance hand marks held done taken
 
 abbrev μ-loop : tie.MeasureT-loop
 μ-loop limit kinds numbers allowance hand₀ marks₀ n held₀ done₀ taken₀ hand marks held done taken = allowance - taken
+
+-- what is known once an item has been advanced
+module _ (c : tie.After-advance Inv-loop μ-loop) where
+  abbrev head : tie.At-loop Inv-loop μ-loop
+  head = c .before .before .before .before
+
+  abbrev start : tie.Start Inv-loop μ-loop
+  start = head .before .before .before
+
+  turned
+      : Turned (start .args .limit) (start .args .kinds .now) (start .args .numbers .now) (start .args .allowance) (head .loop .done) (head .loop .taken)
+      (c .advance .last .1 .1 .1 .0) (c .advance .last .1 .1 .1 .1 .0) (c .advance .result)
+  turned = turn (start .pre .0 .0) (head .loop .inv) (c .advance .ensures)
 
 loop-holds : tie.Need-loop-holds Inv-loop μ-loop
 loop-holds c =
     let s = c .before .before in
     let g = s .args in
-    begins-driving (g .limit) (g .kinds .now) (g .numbers .now) (g .allowance) (s .pre .0 .0) (g .hand .now) (g .marks .now) (s .pre .0 .2) (s .pre .1 .0) (s .pre .1 .1)
+    begins-driving (g .limit) (g .kinds .now) (g .numbers .now) (g .allowance) (g .hand .now) (g .marks .now) (s .pre .0 .2) (s .pre .1 .0) (s .pre .1 .1)
 
 add-advance : tie.Need-add-advance Inv-loop μ-loop
 add-advance c = search needs
@@ -25,9 +39,9 @@ add-advance c = search needs
 advance-requires : tie.Need-advance-requires Inv-loop μ-loop
 advance-requires c κs =
     let s = c .before .before .before .before .before .before in
-    let l = c .before .before .before .loop in
+    let l = c .before .before .before .loop .inv in
     let h = c .before .before .loop-test .taken in
-    ((s .pre .0 .0, l .inv .1, omega arith), (l .inv .2, l .inv .3))
+    record { same = s .pre .0 .0; more = l .more; allowed = omega arith; shown = l .shows; good = l .good }
 
 enum-known-now-held : tie.Need-enum-known-now-held Inv-loop μ-loop
 enum-known-now-held c = search needs
@@ -46,44 +60,23 @@ value-of-requires c κs = search needs
 
 returns : tie.Need-returns Inv-loop μ-loop
 returns c =
-    let s = c .before .before .before .before .before .before .before .before .before .before .before .before .before .before in
-    let g = s .args in
-    let l = c .before .before .before .before .before .before .before .before .before .before .before .loop in
-    let r = c .before .before .before .before .before .before .before .advance in
     let v = c .before .before .before .before .before .now-held .given in
-    finished-shown (g .limit) (g .kinds .now) (g .numbers .now) (g .allowance) (s .pre .0 .0) (l .hand) (l .marks) (l .held) (l .done) (l .taken) (l .inv) (r .last .1 .1 .1 .0) (r .last .1 .1 .1 .1 .0) (r .result) (r .ensures) (v .0 .0) (v .0 .1 .0) (v .1) (c .before .before .before .if1 .taken) (c .value-of .result) (c .value-of .ensures)
+    finished-shown (turned (c .before .before .before .before .before .before .before)) (v .1) (c .before .before .before .if1 .taken) (c .value-of .ensures)
 
 loop-less : tie.Need-loop-less Inv-loop μ-loop
 loop-less c =
-    let s = c .before .before .before .before .before .before .before .before .before .before .before in
-    let g = s .args in
-    let l = c .before .before .before .before .before .before .before .before .loop in
-    let r = c .before .before .before .before .advance in
-    let v = c .before .before .now-held .given in
     let h = c .before .before .before .before .before .before .before .loop-test .taken in
-    let m = more-taken (g .limit) (g .kinds .now) (g .numbers .now) (g .allowance) (s .pre .0 .0) (l .hand) (l .marks) (l .held) (l .done) (l .taken) (l .inv) (r .last .1 .1 .1 .0) (r .last .1 .1 .1 .1 .0) (r .result) (r .ensures) (v .0 .0) (v .0 .1 .0) (v .1) in
+    let m = more-taken (turned (c .before .before .before .before)) (c .before .before .now-held .given .1) in
     omega arith
 
 loop-again : tie.Need-loop-again Inv-loop μ-loop
-loop-again c =
-    let s = c .before .before .before .before .before .before .before .before .before .before .before in
-    let g = s .args in
-    let l = c .before .before .before .before .before .before .before .before .loop in
-    let r = c .before .before .before .before .advance in
-    let v = c .before .before .now-held .given in
-    drives-on (g .limit) (g .kinds .now) (g .numbers .now) (g .allowance) (s .pre .0 .0) (l .hand) (l .marks) (l .held) (l .done) (l .taken) (l .inv) (r .last .1 .1 .1 .0) (r .last .1 .1 .1 .1 .0) (r .result) (r .ensures) (v .0 .0) (v .0 .1 .0) (v .1) (c .if1 .left)
+loop-again c = drives-on (turned (c .before .before .before .before)) (c .before .before .now-held .given .1) (c .if1 .left)
 
 enum-known-phase : tie.Need-enum-known-phase Inv-loop μ-loop
 enum-known-phase c = search needs
 
 returns-2 : tie.Need-returns-2 Inv-loop μ-loop
-returns-2 c =
-    let s = c .before .before .before .before .before .before .before .before .before .before in
-    let g = s .args in
-    let l = c .before .before .before .before .before .before .before .loop in
-    let r = c .before .before .before .advance in
-    let v = c .before .phase .given in
-    within-shown (g .limit) (g .kinds .now) (g .numbers .now) (g .allowance) (s .pre .0 .0) (l .hand) (l .marks) (l .held) (l .done) (l .taken) (l .inv) (r .last .1 .1 .1 .0) (r .last .1 .1 .1 .1 .0) (r .result) (r .ensures) (v .0 .0) (v .0 .1 .0) (v .0 .1 .1 .0) (v .1)
+returns-2 c = within-shown (turned (c .before .before .before)) (c .before .phase .given .1)
 
 enum-known-refusal : tie.Need-enum-known-refusal Inv-loop μ-loop
 enum-known-refusal c = search needs
@@ -92,20 +85,10 @@ add-t30 : tie.Need-add-t30 Inv-loop μ-loop
 add-t30 c = search needs
 
 returns-3 : tie.Need-returns-3 Inv-loop μ-loop
-returns-3 c =
-    let s = c .before .before .before .before .before .before .before .before .before .before in
-    let g = s .args in
-    let l = c .before .before .before .before .before .before .before .loop in
-    let r = c .before .before .before .advance in
-    let v = c .before .refusal .given in
-    refused-shown (g .limit) (g .kinds .now) (g .numbers .now) (g .allowance) (s .pre .0 .0) (l .hand) (l .marks) (l .held) (l .done) (l .taken) (l .inv) (r .last .1 .1 .1 .0) (r .last .1 .1 .1 .1 .0) (r .result) (r .ensures) (v .0 .0) (v .1)
+returns-3 c = refused-shown (turned (c .before .before .before)) (c .before .refusal .given .1)
 
 returns-4 : tie.Need-returns-4 Inv-loop μ-loop
-returns-4 c =
-    let s = c .before .before .before .before in
-    let g = s .args in
-    let l = c .before .loop in
-    between-shown (g .limit) (g .kinds .now) (g .numbers .now) (g .allowance) (s .pre .0 .0) (l .hand) (l .marks) (l .held) (l .done) (l .taken) (l .inv) (c .loop-test .left)
+returns-4 c = between-shown (c .before .before .before .before .pre .0 .0) (c .before .loop .inv) (c .loop-test .left)
 
 pub drive-spec : {M : Type 1} → statement M
 drive-spec =

@@ -30,21 +30,19 @@ returns c =
     let s = c .before .before .before .before .before .before in
     let g = s .args in
     let v = c .before .before .before .before .reached .given in
-    value-lands (g .held) (g .hand .now) (g .marks .now) (s .pre .0) (g .reached) _ _ (v .0 .0) (v .0 .1 .0) (s .pre .1) (c .put .ensures .0) (c .put .ensures .1) (v .1)
+    value-lands (g .held) (g .hand .now) (g .marks .now) (s .pre .0) (s .pre .1) (c .put .ensures .0) (c .put .ensures .1) (v .1)
 
 returns-2 : tie.Need-returns-2
 returns-2 c =
     let s = c .before .before .before in
     let g = s .args in
-    let v = c .before .reached2 .given in
-    within-lands (g .held) (g .hand .now) (g .marks .now) (s .pre .0) (g .reached) (v .0 .0) (v .0 .1 .0) (v .1)
+    within-lands (g .held) (g .hand .now) (g .marks .now) (s .pre .0) (c .before .reached2 .given .1)
 
 returns-3 : tie.Need-returns-3
 returns-3 c =
     let s = c .before .before .before in
     let g = s .args in
-    let v = c .before .reached3 .given in
-    refusal-lands (g .held) (g .hand .now) (g .marks .now) (s .pre .0) (g .reached) (v .0 .0) (v .1)
+    refusal-lands (g .held) (g .hand .now) (g .marks .now) (s .pre .0) (c .before .reached3 .given .1)
 
 pub land-spec : {M : Type 1} → statement M
 land-spec =

@@ -2,7 +2,6 @@
 -- Assumes nothing.
 use native.Mathlib.Omega.{arith}
 use Prim.Native.Nat.{_-_}
-use Rattle.shape.specs.Items.{kindOf}
 use Rattle.recipe.proofs.Landing.{both-taken, operates}
 use Rattle.recipe.proofs.Places.{shows-length, take-shows}
 use borrow.Author.Needs.{needs}
@@ -36,31 +35,24 @@ take-requires-2 c κs =
 sub-land : tie.Need-sub-land
 sub-land c = search needs
 
-begin-requires : tie.Need-begin-requires
-begin-requires c κs = search needs
-
-go-on-requires : tie.Need-go-on-requires
-go-on-requires c κs = search needs
+work-requires : tie.Need-work-requires
+work-requires c κs = search needs
 
 land-requires : tie.Need-land-requires
 land-requires c κs =
-    let s = c .before .before .before .before .before .before .before .before .before .before in
-    let g = s .args in
-    let t = c .before .before .before .before .before .before .before .take .ensures .1 in
-    let u = c .before .before .before .before .take2 .ensures .1 in
+    let s = c .before .before .before .before .before .before .before .before .before in
     let h = s .pre .3 .0 in
-    (both-taken (g .held) (g .hand .now) (g .marks .now) _ _ _ _ (s .pre .2) (s .pre .3) (t .0) (t .1) (u .0) (u .1), omega arith)
+    let t = c .before .before .before .before .before .before .take .ensures in
+    let u = c .before .before .before .take2 .ensures in
+    (both-taken (record { two = s .pre .2; shown = s .pre .3; right = t; left = u }), omega arith)
 
 returns : tie.Need-returns
 returns c =
-    let s = c .before .before .before .before .before .before .before .before .before .before .before in
-    let g = s .args in
-    let t = c .before .before .before .before .before .before .before .before .take .ensures in
-    let u = c .before .before .before .before .before .take2 .ensures in
-    let b = c .before .before .begin in
-    let w = c .before .go-on in
-    operates (g .held) (g .hand .now) (g .marks .now) _ _ _ _ (s .pre .2) (s .pre .3) (t .1 .0) (t .1 .1) (u .1 .0) (u .1 .1) (g .limit) (g .allowance) (g .from) (kindOf (g .kind))
-    (c .land .last .0) (c .land .last .1 .0) _ _ (b .result) (w .result) (c .land .result) (t .0) (u .0) (b .ensures .0) (w .ensures) (c .land .ensures)
+    let s = c .before .before .before .before .before .before .before .before .before .before in
+    let t = c .before .before .before .before .before .before .before .take .ensures in
+    let u = c .before .before .before .before .take2 .ensures in
+    operates (record { two = s .pre .2; shown = s .pre .3; right = t; left = u })
+    (record { allowed = s .pre .4; comes = c .before .work .ensures }) (c .land .ensures)
 
 pub operate-spec : {M : Type 1} → statement M
 operate-spec =
@@ -71,7 +63,6 @@ operate-spec =
     sub-take-2
     take-requires-2
     sub-land
-    begin-requires
-    go-on-requires
+    work-requires
     land-requires
     returns)

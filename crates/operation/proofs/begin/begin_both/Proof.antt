@@ -1,0 +1,37 @@
+-- `begin::begin_both` meets its contract.
+-- Assumes nothing.
+use Rattle.operation.proofs.Outcomes.{fitting-begins, overflowed-begins}
+use mathlib.Core.Path.{_∙_, sym}
+use borrow.Author.Needs.{needs}
+use Rattle.operation.proofs.begin.begin_both.Statement.{statement}
+use Rattle.operation.proofs.begin.begin_both.Tie as tie
+
+both-requires : tie.Need-both-requires
+both-requires c κs = search needs
+
+enum-known-l : tie.Need-enum-known-l
+enum-known-l c = search needs
+
+begin-fitting-requires : tie.Need-begin-fitting-requires
+begin-fitting-requires c κs = search needs
+
+enum-told : tie.Need-enum-told
+enum-told c = search needs
+
+returns : tie.Need-returns
+returns c =
+    let g = c .before .before .before .before .before .args in
+    let v = c .before .before .l .given in
+    let b = c .begin-fitting .ensures in
+    (fitting-begins (g .limit) (g .left) (g .right) (g .kind) (v .0 .0) (v .0 .1 .0) (sym (c .before .before .before .before .both .ensures) ∙ v .1) (b .0), b .1)
+
+returns-2 : tie.Need-returns-2
+returns-2 c =
+    let s = c .before .before .before in
+    let g = s .args in
+    (overflowed-begins (g .limit) (g .left) (g .right) (g .kind) (s .pre .0) (s .pre .1) (sym (c .before .before .both .ensures) ∙ c .enum-told .given .1), tt)
+
+pub begin-both-spec : {M : Type 1} → statement M
+begin-both-spec =
+    tie.close
+    (tie.spec both-requires enum-known-l begin-fitting-requires enum-told returns returns-2)

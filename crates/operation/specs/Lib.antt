@@ -1,0 +1,2 @@
+-- The definitions of this crate: how far an allowance brings an operation.
+pub mod Work

@@ -1,0 +1,94 @@
+// The first step of an operation.
+use crate::types::Outcome;
+use crate::within::dividing;
+use crate::within::powering;
+use checked::limited::add_checked;
+use checked::limited::both;
+use checked::limited::checked_of;
+use checked::limited::mul_checked;
+use checked::refusal::Refusal;
+use checked::types::Both;
+use checked::types::Checked64;
+ghost use mathlib.Core.Path.{_≡_};
+ghost use Prim.Native.Nat.{_<_};
+ghost use Rattle.checked.specs.declared.types.Checked64.the-variants.{Fits};
+ghost use Rattle.shape.specs.Items.{kindOf, quotient, remainder, power, logarithm};
+ghost use Rattle.steps.specs.Steps.{begun};
+ghost use Rattle.operation.specs.Work.{outcome, SoundOutcome, begunAs};
+
+// l by r, where both fit.
+fn begin_quotient(limit: u64, l: u64, r: u64) -> Outcome
+    ensures { λ o. ⌜ (outcome o ≡ begun limit quotient (Fits l) (Fits r)) × SoundOutcome o ⌝ }
+{
+    if r == 0 {
+        return Outcome::Refused(Refusal::DivisorZero);
+    }
+    Outcome::Value(Checked64::Fits(l / r))
+}
+
+fn begin_remainder(limit: u64, l: u64, r: u64) -> Outcome
+    ensures { λ o. ⌜ (outcome o ≡ begun limit remainder (Fits l) (Fits r)) × SoundOutcome o ⌝ }
+{
+    if r == 0 {
+        return Outcome::Refused(Refusal::DivisorZero);
+    }
+    Outcome::Value(Checked64::Fits(l % r))
+}
+
+fn begin_power(limit: u64, l: u64, r: u64) -> Outcome
+    ensures { λ o. ⌜ (outcome o ≡ begun limit power (Fits l) (Fits r)) × SoundOutcome o ⌝ }
+{
+    powering(checked_of(limit, 1), Checked64::Fits(l), r)
+}
+
+fn begin_logarithm(limit: u64, l: u64, r: u64) -> Outcome
+    ensures { λ o. ⌜ (outcome o ≡ begun limit logarithm (Fits l) (Fits r)) × SoundOutcome o ⌝ }
+{
+    if l < 2 {
+        return Outcome::Refused(Refusal::BaseBelowTwo);
+    }
+    dividing(l, r, 0)
+}
+
+// Kinds 3 to 6 on numbers that fit.
+fn begin_fitting(limit: u64, kind: u8, l: u64, r: u64) -> Outcome
+    requires { ⌜ (2 < kind) × (kind < 7) ⌝ }
+    ensures { λ o. ⌜ (outcome o ≡ begunAs limit (kindOf kind) (Fits l) (Fits r)) × SoundOutcome o ⌝ }
+{
+    match kind {
+        3 => begin_quotient(limit, l, r),
+        4 => begin_remainder(limit, l, r),
+        5 => begin_power(limit, l, r),
+        _ => begin_logarithm(limit, l, r),
+    }
+}
+
+// Kinds 3 to 6: an overflowed operand is refused before anything else is looked at.
+fn begin_both(limit: u64, kind: u8, left: Checked64, right: Checked64) -> Outcome
+    requires { ⌜ (2 < kind) × (kind < 7) ⌝ }
+    ensures { λ o. ⌜ (outcome o ≡ begunAs limit (kindOf kind) left right) × SoundOutcome o ⌝ }
+{
+    match both(left, right) {
+        Both::Numbers(l, r) => begin_fitting(limit, kind, l, r),
+        Both::Overflowed => Outcome::Refused(Refusal::Overflowed),
+    }
+}
+
+// What a kind begins with. Sums and products, which are the most frequent, are looked for first.
+pub(crate) fn begin(limit: u64, kind: u8, left: Checked64, right: Checked64) -> Outcome
+    ensures { λ o. ⌜ (outcome o ≡ begunAs limit (kindOf kind) left right) × SoundOutcome o ⌝ }
+{
+    if kind == 1 {
+        return Outcome::Value(add_checked(limit, left, right));
+    }
+    if kind == 2 {
+        return Outcome::Value(mul_checked(limit, left, right));
+    }
+    if kind == 0 {
+        return Outcome::Refused(Refusal::UnknownKind);
+    }
+    if 6 < kind {
+        return Outcome::Refused(Refusal::UnknownKind);
+    }
+    begin_both(limit, kind, left, right)
+}
