@@ -19,13 +19,17 @@ use Rattle.block.specs.Marks.{marksFine}
 
 -- no mark at all
 pub unmarked
-    : (from : ℕ) (b : List ℕ) (c : ℕ) → from + 8 * c ≤ marksAt → zeros marksAt checkAt b ≡ true → true ≡ marksFine from b c
+    : (from : ℕ) (b : List ℕ) (c : ℕ) → from + 8 * c ≤ marksAt → zeros marksAt checkAt b ≡ true →
+    true ≡ marksFine from b c
 unmarked from b c h z =
     sym
     (ap₂ _&&_
     (zeros-within b marksAt checkAt (marksAt + c) checkAt (omega arith) (omega arith) z)
     (every-of (placeWellMarked from b) c
-    (λ i l. sym (marked-0 (mark b i) (numberFrom from b i) (zeros-at marksAt checkAt b z (marksAt + i) (omega arith) (omega arith))))))
+    (λ i l.
+    sym
+    (marked-0 (mark b i) (numberFrom from b i)
+    (zeros-at marksAt checkAt b z (marksAt + i) (omega arith) (omega arith))))))
 
 -- where the rest of an edition's layout is right, the marks decide
 pub marks-decide

@@ -1,5 +1,6 @@
--- What the functions on blocks promise. `block::sound::sound` and `block::read::read` equal `faultOf`, `readingOf`, `numbersAfter` and `marksAfter` by
--- their contracts, for any list of bytes and any two lent lists; the theorems on these are `layout`'s, for any edition, gathered here under their names.
+-- What the functions on blocks promise. `block::sound::sound` and `block::read::read` equal `faultOf`, `readingOf`,
+-- `numbersAfter` and `marksAfter` by their contracts, for any list of bytes and any two lent lists; the theorems on
+-- these are `layout`'s, for any edition, gathered here under their names.
 -- Assumes nothing.
 use mathlib.Core.Path.{_≡_, ap, ap₂, sym, _∙_}
 use mathlib.Core.Logic.{_↔_}
@@ -20,9 +21,11 @@ use Rattle.block.specs.Marks.{noMarks}
 -- sound exactly when each sentence of the layout holds
 pub use Rattle.layout.proofs.Layouts.{sound-exactly}
 -- which blocks are accepted, and which refusal the others get
-pub use Rattle.layout.proofs.Promises.{accepted-exactly, refused-16-exactly, refused-17-exactly, refused-18-exactly, refused-18-told, refused-19-exactly, only-codes}
+pub use Rattle.layout.proofs.Promises.{accepted-exactly, refused-16-exactly, refused-17-exactly, refused-18-exactly}
+pub use Rattle.layout.proofs.Promises.{refused-18-told, refused-19-exactly, only-codes}
 -- what is given back, and what the two lists hold afterwards
-pub use Rattle.layout.proofs.Promises.{given-where-accepted, refused-at-0, numbers-read, marks-read, nothing-past-numbers, nothing-past-marks, lists-stay, lengths-stay}
+pub use Rattle.layout.proofs.Promises.{given-where-accepted, refused-at-0, numbers-read, marks-read}
+pub use Rattle.layout.proofs.Promises.{nothing-past-numbers, nothing-past-marks, lists-stay, lengths-stay}
 -- the check is below 2^32, and any one byte changed is noticed
 pub use Rattle.layout.proofs.Promises.{check-below-2^32, changed-byte-noticed}
 -- no other answer meets the contracts

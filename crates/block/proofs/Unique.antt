@@ -19,7 +19,9 @@ soundBack n = cond (eqb n 0) sound.Sound (sound.Refused (refusalOf n))
 sound-back : (s : Sound) → soundBack (fault s) ≡ s
 unfolding soundBack
 sound-back sound.Sound = refl
-sound-back (sound.Refused r) = ap (λ t. cond t sound.Sound (sound.Refused (refusalOf (numberOf r)))) (not-zero r) ∙ ap sound.Refused (refusal-back r)
+sound-back (sound.Refused r) =
+    ap (λ t. cond t sound.Sound (sound.Refused (refusalOf (numberOf r)))) (not-zero r)
+    ∙ ap sound.Refused (refusal-back r)
 
 pub sound-unique : (a b : Sound) → fault a ≡ fault b → a ≡ b
 sound-unique = one fault soundBack sound-back
@@ -30,7 +32,9 @@ readBack r = cond (eqb (r .code) 0) (read.Values (r .number) (r .count)) (read.R
 read-back : (r : Read) → readBack (reading r) ≡ r
 unfolding readBack
 read-back (read.Values n c) = refl
-read-back (read.Refused r) = ap (λ t. cond t (read.Values 0 0) (read.Refused (refusalOf (numberOf r)))) (not-zero r) ∙ ap read.Refused (refusal-back r)
+read-back (read.Refused r) =
+    ap (λ t. cond t (read.Values 0 0) (read.Refused (refusalOf (numberOf r)))) (not-zero r)
+    ∙ ap read.Refused (refusal-back r)
 
 pub read-unique : (a b : Read) → reading a ≡ reading b → a ≡ b
 read-unique = one reading readBack read-back

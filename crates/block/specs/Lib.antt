@@ -1,3 +1,4 @@
--- The definitions of this crate: what its functions answer in numbers; and, for its helpers, the part of the layout on marks.
+-- The definitions of this crate: what its functions answer in numbers; and, for its helpers, the part of the layout
+-- on marks.
 pub mod Answers
 pub mod Marks

@@ -10,7 +10,8 @@ use Rattle.little.specs.Zeros.{zeros}
 use Rattle.layout.specs.Editions.{blockLength, marksAt, checkAt, one}
 use Rattle.layout.specs.Layout.{placeWellMarked}
 
--- unused marks and the bytes after them are zero, and the marks in use are well marked, where the numbers begin at place `from`
+-- unused marks and the bytes after them are zero, and the marks in use are well marked, where the numbers begin at
+-- place `from`
 abbrev pub marksFine : ℕ → List ℕ → ℕ → Bool
 marksFine from b count = zeros (marksAt + count) checkAt b && every (placeWellMarked from b) count
 

@@ -1,4 +1,5 @@
-// The block reader: the values of a sound block go into two lent lists, and nothing is written where the answer is a refusal.
+// The block reader: the values of a sound block go into two lent lists, and nothing is written where the answer is a
+// refusal.
 use crate::bytes::word_at;
 use crate::copy::copy_marks;
 use crate::copy::copy_numbers;

@@ -50,7 +50,8 @@ fn all_well_marked(b: &[u8], first: usize, count: usize) -> bool
     true
 }
 
-// The marks, used and unused, and the zeros after them. Most blocks have no mark at all, which one look over all of them shows.
+// The marks, used and unused, and the zeros after them. Most blocks have no mark at all, which one look over all of
+// them shows.
 fn marks_fine(b: &[u8], first: usize, count: usize) -> bool
     requires { ⌜ (length (now b) ≡ blockLength) × (first + 8 * count ≤ marksAt) ⌝ }
     ensures { λ r. ⌜ r ≡ marksFine first (now (b .entry)) count ⌝ }

@@ -1,4 +1,5 @@
--- The sum for the check by rows of 64 bytes: one row added, the columns while rows are still to come, and the columns weighed.
+-- The sum for the check by rows of 64 bytes: one row added, the columns while rows are still to come, and the columns
+-- weighed.
 -- Assumes nothing.
 use mathlib.Core.Path.{_≡_, ap, ap₂, sym, _∙_}
 use mathlib.Core.List.{List}
@@ -25,7 +26,11 @@ module _ (b : List ℕ) (at : ℕ) (all₀ rows₀ : List ℕ) where
 
   pub added-none : Added 0 all₀ rows₀
   added-none =
-      record { all-done = sym (over-none (allWith b at all₀) all₀); rows-done = sym (over-none (rowsWith all₀ rows₀) rows₀); within = omega arith }
+      record {
+        all-done = sym (over-none (allWith b at all₀) all₀);
+        rows-done = sym (over-none (rowsWith all₀ rows₀) rows₀);
+        within = omega arith;
+      }
 
   module _ (small : Small all₀ rows₀) (j : ℕ) (all rows : List ℕ) (a : Added j all rows) (h : j < 64) where
     -- column j is as it was
@@ -39,27 +44,34 @@ module _ (b : List ℕ) (at : ℕ) (all₀ rows₀ : List ℕ) where
     pub column-small : (getD all j 0 ≤ 2040) × (getD rows j 0 ≤ 14280)
     column-small = (omega (arith, all-there, small .all-small j h), omega (arith, rows-there, small .rows-small j h))
 
-    pub added-more : Added (j + 1) (set all j (getD all j 0 + byteAt b (at + j))) (set rows j (getD rows j 0 + getD all j 0))
+    pub added-more
+        : Added (j + 1) (set all j (getD all j 0 + byteAt b (at + j))) (set rows j (getD rows j 0 + getD all j 0))
     added-more =
         let e : suc j ≡ j + 1 = omega arith in
         let la : j < length all₀ = omega (arith, small .all-length) in
         let lr : j < length rows₀ = omega (arith, small .rows-length) in
         record {
           all-done =
-              ap₂ (λ l v. set l j v) (a .all-done) (ap (λ v. v + byteAt b (at + j)) all-there) ∙ over-more (allWith b at all₀) all₀ j la
+              ap₂ (λ l v. set l j v) (a .all-done) (ap (λ v. v + byteAt b (at + j)) all-there)
+              ∙ over-more (allWith b at all₀) all₀ j la
               ∙ ap (λ n. over (allWith b at all₀) n all₀) e;
           rows-done =
-              ap₂ (λ l v. set l j v) (a .rows-done) (ap₂ _+_ rows-there all-there) ∙ over-more (rowsWith all₀ rows₀) rows₀ j lr
+              ap₂ (λ l v. set l j v) (a .rows-done) (ap₂ _+_ rows-there all-there)
+              ∙ over-more (rowsWith all₀ rows₀) rows₀ j lr
               ∙ ap (λ n. over (rowsWith all₀ rows₀) n rows₀) e;
           within = omega arith;
         }
 
   -- all 64 of them
-  pub added-all : (j : ℕ) (all rows : List ℕ) → Added j all rows → 64 ≤ j → (all ≡ allMore b at all₀) × (rows ≡ rowsMore all₀ rows₀)
+  pub added-all
+      : (j : ℕ) (all rows : List ℕ) → Added j all rows → 64 ≤ j →
+      (all ≡ allMore b at all₀) × (rows ≡ rowsMore all₀ rows₀)
   added-all j all rows a h =
       let w = a .within in
-      let e : j ≡ 64 = omega arith in
-      (a .all-done ∙ ap (λ n. over (allWith b at all₀) n all₀) e, a .rows-done ∙ ap (λ n. over (rowsWith all₀ rows₀) n rows₀) e)
+      let e : j ≡ 64 = omega arith in (
+        a .all-done ∙ ap (λ n. over (allWith b at all₀) n all₀) e,
+        a .rows-done ∙ ap (λ n. over (rowsWith all₀ rows₀) n rows₀) e,
+      )
 
 -- ---- while rows are still to come
 
@@ -99,7 +111,8 @@ columns-start b =
 
 -- a row more
 pub columns-more
-    : (b : List ℕ) (row : ℕ) (all rows : List ℕ) → Columns b (suc row) all rows → Columns b row (allMore b (64 * row) all) (rowsMore all rows)
+    : (b : List ℕ) (row : ℕ) (all rows : List ℕ) → Columns b (suc row) all rows →
+    Columns b row (allMore b (64 * row) all) (rowsMore all rows)
 columns-more b row all rows c =
     let added = over-at (allWith b (64 * row) all) all 64 in
     let raised = over-at (rowsWith all rows) rows 64 in
@@ -107,7 +120,9 @@ columns-more b row all rows c =
       all-length = length-over (allWith b (64 * row) all) all 64 (omega (arith, c .all-length)) ∙ c .all-length;
       rows-length = length-over (rowsWith all rows) rows 64 (omega (arith, c .rows-length)) ∙ c .rows-length;
       all-so-far = λ j h. omega (arith, added j h, c .all-so-far j h, total-more (cell b j) row);
-      rows-so-far = λ j h. omega (arith, ap (λ n. row * n) (added j h), raised j h, c .rows-so-far j h, total-more (rowed b j) row);
+      rows-so-far =
+          λ j h.
+          omega (arith, ap (λ n. row * n) (added j h), raised j h, c .rows-so-far j h, total-more (rowed b j) row);
     }
 
 -- ---- the columns weighed

@@ -1,5 +1,6 @@
--- The sum for the check, worked out as 8 rows of 64 bytes from the last row up: for each column, `all` is the sum of the bytes met so far, and `rows` grows
--- by `all` as each row is met. So in the end `all` is the column's sum and `rows` its sum with each byte taken as often as its row's number says.
+-- The sum for the check, worked out as 8 rows of 64 bytes from the last row up: for each column, `all` is the sum of
+-- the bytes met so far, and `rows` grows by `all` as each row is met. So in the end `all` is the column's sum and
+-- `rows` its sum with each byte taken as often as its row's number says.
 -- Assumes nothing.
 use mathlib.Core.Path.{_≡_}
 use mathlib.Core.List.{List}

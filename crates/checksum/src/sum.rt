@@ -1,5 +1,5 @@
-// The sum that a block's check is to be, without a product for each byte: 8 rows of 64 bytes, from the last row up. The sums of a column
-// are of 16 bits, so that a compiler does eight columns at a time.
+// The sum that a block's check is to be, without a product for each byte: 8 rows of 64 bytes, from the last row up.
+// The sums of a column are of 16 bits, so that a compiler does eight columns at a time.
 use layout::BLOCK_LENGTH;
 use layout::CHECK_AT;
 ghost use mathlib.Core.Path.{_≡_};

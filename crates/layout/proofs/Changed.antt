@@ -17,7 +17,8 @@ use Rattle.layout.proofs.Check.{check-changed, check-not-changed}
 
 -- a factor that isn't 0 leaves what it is multiplied with apart
 same-times : (k x y : ℕ) → 0 < k → k * x ≡ k * y → x ≡ y
-same-times k x y h e = le-antisymm (le-of-mul-le-mul-left {k = k} (omega arith) h) (le-of-mul-le-mul-left {k = k} (omega arith) h)
+same-times k x y h e =
+    le-antisymm (le-of-mul-le-mul-left {k = k} (omega arith) h) (le-of-mul-le-mul-left {k = k} (omega arith) h)
 
 module _ (b : List ℕ) (y : ℕ) where
   -- the check itself stays where a byte before it is changed
@@ -27,18 +28,22 @@ module _ (b : List ℕ) (y : ℕ) where
 
   -- and changes with one of its own four
   own-byte
-      : (j : ℕ) → length b ≡ blockLength → j < 4 → check (set b (checkAt + j) y) + 256 ^ j * byteAt b (checkAt + j) ≡ check b + 256 ^ j * y
+      : (j : ℕ) → length b ≡ blockLength → j < 4 →
+      check (set b (checkAt + j) y) + 256 ^ j * byteAt b (checkAt + j) ≡ check b + 256 ^ j * y
   unfolding check
   own-byte j l h =
-      let s : part checkAt 4 (set b (checkAt + j) y) ≡ set (part checkAt 4 b) j y = ap (take 4) (drop-set-add checkAt b j y) ∙ take-set-lt 4 (drop checkAt b) j y h in
-      let e = little-changed (part checkAt 4 b) j y (omega (arith, length-take 4 (drop checkAt b), length-drop checkAt b)) in
+      let s : part checkAt 4 (set b (checkAt + j) y) ≡ set (part checkAt 4 b) j y =
+      ap (take 4) (drop-set-add checkAt b j y) ∙ take-set-lt 4 (drop checkAt b) j y h in
+      let e =
+      little-changed (part checkAt 4 b) j y (omega (arith, length-take 4 (drop checkAt b), length-drop checkAt b)) in
       let g = ap little s in
       let a = ap (λ x. 256 ^ j * x) (part-at checkAt 4 b j h) in
       omega arith
 
   -- a block whose check is right has a wrong one with any byte changed
   pub check-wrong
-      : (i : ℕ) → length b ≡ blockLength → check b ≡ checkSum b → i < blockLength → (y ≡ byteAt b i → ⊥) → check (set b i y) ≡ checkSum (set b i y) → ⊥
+      : (i : ℕ) → length b ≡ blockLength → check b ≡ checkSum b → i < blockLength → (y ≡ byteAt b i → ⊥) →
+      check (set b i y) ≡ checkSum (set b i y) → ⊥
   check-wrong i l c h n e =
       elim (decLt i checkAt) [
         | yes k ↦
@@ -51,6 +56,7 @@ module _ (b : List ℕ) (y : ℕ) where
             let d = own-byte (i - checkAt) l (omega arith) in
             let q = ap (λ j. check (set b j y)) p in
             let r = ap (byteAt b) p in
-            let power : 0 < 256 ^ (i - checkAt) = omega (arith, pow-le-pow-right {n = 256} (omega arith) {i = 0} {j = i - checkAt} (omega arith)) in
+            let power : 0 < 256 ^ (i - checkAt) =
+            omega (arith, pow-le-pow-right {n = 256} (omega arith) {i = 0} {j = i - checkAt} (omega arith)) in
             n (same-times (256 ^ (i - checkAt)) y (byteAt b (checkAt + (i - checkAt))) power (omega arith) ∙ r)
       ]

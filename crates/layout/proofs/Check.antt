@@ -24,7 +24,11 @@ weighed-at-most b i bytes h =
 -- the sum over the first n places of a block
 pub sums-at-most : (b : List ℕ) (n : ℕ) → Bytes b → n ≤ blockLength → total (weighed b) n ≤ 66846720
 sums-at-most b n bytes h =
-    omega (arith, total-at-most (weighed b) 130560 n (λ j l. weighed-at-most b j bytes (omega arith)), mul-le-mul-right 130560 h)
+    omega (
+      arith,
+      total-at-most (weighed b) 130560 n (λ j l. weighed-at-most b j bytes (omega arith)),
+      mul-le-mul-right 130560 h,
+    )
 
 pub check-below : (b : List ℕ) → Bytes b → checkSum b < 2 ^ 32
 unfolding checkSum
@@ -34,14 +38,17 @@ check-below b bytes = omega (arith, sums-at-most b checkAt bytes (omega arith))
 
 -- a byte before the check counts with its place
 pub check-changed
-    : (b : List ℕ) (i y : ℕ) → i < checkAt → i < length b → checkSum (set b i y) + suc i * byteAt b i ≡ checkSum b + suc i * y
+    : (b : List ℕ) (i y : ℕ) → i < checkAt → i < length b →
+    checkSum (set b i y) + suc i * byteAt b i ≡ checkSum b + suc i * y
 unfolding checkSum
 check-changed b i y h l =
-    total-changed (weighed (set b i y)) (weighed b) i checkAt h (λ j n. ap (λ x. suc j * x) (getD-set-other b i j y 0 n))
+    total-changed (weighed (set b i y)) (weighed b) i checkAt h
+    (λ j n. ap (λ x. suc j * x) (getD-set-other b i j y 0 n))
     ∙ ap (λ x. total (weighed b) checkAt + suc i * x) (getD-set-same b i y 0 l)
 
 -- the check's own bytes do not count
 pub check-not-changed : (b : List ℕ) (i y : ℕ) → checkAt ≤ i → checkSum (set b i y) ≡ checkSum b
 unfolding checkSum
 check-not-changed b i y h =
-    total-same (weighed (set b i y)) (weighed b) checkAt (λ j l. ap (λ x. suc j * x) (getD-set-other b i j y 0 (λ e. omega arith)))
+    total-same (weighed (set b i y)) (weighed b) checkAt
+    (λ j l. ap (λ x. suc j * x) (getD-set-other b i j y 0 (λ e. omega arith)))

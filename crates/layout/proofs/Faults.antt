@@ -21,11 +21,15 @@ use Rattle.layout.specs.Reading.{readFaultAs}
 module _ (E : Edition) (b : List ℕ) where
   pub length-fault : (length b ≡ blockLength → ⊥) → faultAs E b ≡ 16
   unfolding faultAs
-  length-fault n = ap (λ t. cond t (cond (eqb (check b) (checkSum b)) (cond (hasLayoutAs E b) 0 18) 17) 16) (ne-eqb (length b) blockLength n)
+  length-fault n =
+      ap (λ t. cond t (cond (eqb (check b) (checkSum b)) (cond (hasLayoutAs E b) 0 18) 17) 16)
+      (ne-eqb (length b) blockLength n)
 
   at-length : length b ≡ blockLength → faultAs E b ≡ cond (eqb (check b) (checkSum b)) (cond (hasLayoutAs E b) 0 18) 17
   unfolding faultAs
-  at-length l = ap (λ t. cond t (cond (eqb (check b) (checkSum b)) (cond (hasLayoutAs E b) 0 18) 17) 16) (eq-eqb (length b) blockLength l)
+  at-length l =
+      ap (λ t. cond t (cond (eqb (check b) (checkSum b)) (cond (hasLayoutAs E b) 0 18) 17) 16)
+      (eq-eqb (length b) blockLength l)
 
   pub check-fault : length b ≡ blockLength → (check b ≡ checkSum b → ⊥) → faultAs E b ≡ 17
   check-fault l n = at-length l ∙ ap (λ t. cond t (cond (hasLayoutAs E b) 0 18) 17) (ne-eqb (check b) (checkSum b) n)
@@ -62,7 +66,9 @@ stage E b =
     ]
 
 -- what a block without a fault has
-pub sound-parts : (E : Edition) (b : List ℕ) → faultAs E b ≡ 0 → (length b ≡ blockLength) × (check b ≡ checkSum b) × (hasLayoutAs E b ≡ true)
+pub sound-parts
+    : (E : Edition) (b : List ℕ) → faultAs E b ≡ 0 →
+    (length b ≡ blockLength) × (check b ≡ checkSum b) × (hasLayoutAs E b ≡ true)
 sound-parts E b z =
     elim (stage E b) [
       | other-length n f ↦ absurd (omega arith)
@@ -77,31 +83,44 @@ module _ (E : Edition) (b numbers marks : List ℕ) where
   pub read-fault : (faultAs E b ≡ 0 → ⊥) → readFaultAs E b numbers marks ≡ faultAs E b
   unfolding readFaultAs
   read-fault n =
-      ap (λ t. cond t (cond (leb (count b) (length numbers) && leb (count b) (length marks)) 0 19) (faultAs E b)) (ne-eqb (faultAs E b) 0 n)
+      ap (λ t. cond t (cond (leb (count b) (length numbers) && leb (count b) (length marks)) 0 19) (faultAs E b))
+      (ne-eqb (faultAs E b) 0 n)
 
-  at-sound : faultAs E b ≡ 0 → readFaultAs E b numbers marks ≡ cond (leb (count b) (length numbers) && leb (count b) (length marks)) 0 19
+  at-sound
+      : faultAs E b ≡ 0 →
+      readFaultAs E b numbers marks ≡ cond (leb (count b) (length numbers) && leb (count b) (length marks)) 0 19
   unfolding readFaultAs
   at-sound z =
-      ap (λ t. cond t (cond (leb (count b) (length numbers) && leb (count b) (length marks)) 0 19) (faultAs E b)) (eq-eqb (faultAs E b) 0 z)
+      ap (λ t. cond t (cond (leb (count b) (length numbers) && leb (count b) (length marks)) 0 19) (faultAs E b))
+      (eq-eqb (faultAs E b) 0 z)
 
   pub numbers-short : faultAs E b ≡ 0 → length numbers < count b → readFaultAs E b numbers marks ≡ 19
   numbers-short z h =
       at-sound z ∙ ap (λ t. cond (t && leb (count b) (length marks)) 0 19) (lt-leb (count b) (length numbers) h)
 
-  at-room : faultAs E b ≡ 0 → count b ≤ length numbers → readFaultAs E b numbers marks ≡ cond (leb (count b) (length marks)) 0 19
-  at-room z h = at-sound z ∙ ap (λ t. cond (t && leb (count b) (length marks)) 0 19) (le-leb (count b) (length numbers) h)
+  at-room
+      : faultAs E b ≡ 0 → count b ≤ length numbers →
+      readFaultAs E b numbers marks ≡ cond (leb (count b) (length marks)) 0 19
+  at-room z h =
+      at-sound z ∙ ap (λ t. cond (t && leb (count b) (length marks)) 0 19) (le-leb (count b) (length numbers) h)
 
-  pub marks-short : faultAs E b ≡ 0 → count b ≤ length numbers → length marks < count b → readFaultAs E b numbers marks ≡ 19
+  pub marks-short
+      : faultAs E b ≡ 0 → count b ≤ length numbers → length marks < count b → readFaultAs E b numbers marks ≡ 19
   marks-short z h k = at-room z h ∙ ap (λ t. cond t 0 19) (lt-leb (count b) (length marks) k)
 
-  pub read-sound : faultAs E b ≡ 0 → count b ≤ length numbers → count b ≤ length marks → readFaultAs E b numbers marks ≡ 0
+  pub read-sound
+      : faultAs E b ≡ 0 → count b ≤ length numbers → count b ≤ length marks → readFaultAs E b numbers marks ≡ 0
   read-sound z h k = at-room z h ∙ ap (λ t. cond t 0 19) (le-leb (count b) (length marks) k)
 
 -- one of the three it is
 pub data Read (E : Edition) (b numbers marks : List ℕ) : Type 0 where
   faulty : (faultAs E b ≡ 0 → ⊥) → readFaultAs E b numbers marks ≡ faultAs E b → Read E b numbers marks
-  short : faultAs E b ≡ 0 → (length numbers < count b) ⊎ (length marks < count b) → readFaultAs E b numbers marks ≡ 19 → Read E b numbers marks
-  room : faultAs E b ≡ 0 → count b ≤ length numbers → count b ≤ length marks → readFaultAs E b numbers marks ≡ 0 → Read E b numbers marks
+  short
+      : faultAs E b ≡ 0 → (length numbers < count b) ⊎ (length marks < count b) → readFaultAs E b numbers marks ≡ 19 →
+      Read E b numbers marks
+  room
+      : faultAs E b ≡ 0 → count b ≤ length numbers → count b ≤ length marks → readFaultAs E b numbers marks ≡ 0 →
+      Read E b numbers marks
 
 pub read-stage : (E : Edition) (b numbers marks : List ℕ) → Read E b numbers marks
 read-stage E b numbers marks =

@@ -1,4 +1,5 @@
--- A block has an edition's layout exactly when each of seven tests holds, and it is sound exactly when each sentence of `Told` is so.
+-- A block has an edition's layout exactly when each of seven tests holds, and it is sound exactly when each sentence
+-- of `Told` is so.
 -- Assumes nothing.
 use mathlib.Core.Path.{_≡_, refl, ap, ap₂, sym, _∙_}
 use mathlib.Core.Logic.{_↔_, inl, inr}
@@ -83,7 +84,10 @@ layout-parts E b h =
 pub parts-layout : (E : Edition) (b : List ℕ) → Layout E b → hasLayoutAs E b ≡ true
 unfolding hasLayoutAs
 parts-layout E b l =
-    ap₂ _&&_ (ap₂ _&&_ (ap₂ _&&_ (ap₂ _&&_ (ap₂ _&&_ (ap₂ _&&_ (l .editioned) (l .counted)) (l .headed)) (l .unused-numbers)) (l .unused-marks)) (l .zeros-past)) (l .marked)
+    ap₂ _&&_
+    (ap₂ _&&_
+    (ap₂ _&&_ (ap₂ _&&_ (ap₂ _&&_ (ap₂ _&&_ (l .editioned) (l .counted)) (l .headed)) (l .unused-numbers))
+    (l .unused-marks)) (l .zeros-past)) (l .marked)
 
 -- where one of them fails
 pub no-layout : (E : Edition) (b : List ℕ) → (Layout E b → ⊥) → hasLayoutAs E b ≡ false
@@ -109,7 +113,10 @@ sound-exactly E b = (only, back)
           headed = head-bytes E b (l .headed);
           unused-numbers = unused-numbers-zero E b (count b) (l .unused-numbers);
           unused-marks = unused-marks-zero E b (count b) (l .unused-marks);
-          marked = λ i h. well-marked-exactly (mark b i) (numberFrom (E .first) b i) .0 (every-at (placeWellMarked (E .first) b) (count b) i (l .marked) h);
+          marked =
+              λ i h.
+              well-marked-exactly (mark b i) (numberFrom (E .first) b i) .0
+              (every-at (placeWellMarked (E .first) b) (count b) i (l .marked) h);
           zeros-past = zeros-at (E .past) checkAt b (l .zeros-past);
           checked = p .1;
         }
@@ -123,7 +130,9 @@ sound-exactly E b = (only, back)
           unused-numbers = zero-unused-numbers E b (count b) (l .unused-numbers);
           unused-marks = zero-unused-marks E b (count b) (l .unused-marks);
           zeros-past = zeros-of (E .past) checkAt b (l .zeros-past);
-          marked = every-of (placeWellMarked (E .first) b) (count b) (λ i h. well-marked-exactly (mark b i) (numberFrom (E .first) b i) .1 (l .marked i h));
+          marked =
+              every-of (placeWellMarked (E .first) b) (count b)
+              (λ i h. well-marked-exactly (mark b i) (numberFrom (E .first) b i) .1 (l .marked i h));
         }
 
     back : LaidOutAs E b → faultAs E b ≡ 0

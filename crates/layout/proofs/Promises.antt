@@ -1,6 +1,7 @@
--- What reading a block promises, one named theorem for each promise, for any edition E: over `readingAs E`, which gives a block's number and count or the
--- refusal `readFaultAs E`, and over `numbersAfterAs E` and `marksAfterAs E`, which the two lent lists are afterwards. `readingOf` and its kin, of which the
--- reader's contract speaks, are these at a block's own edition.
+-- What reading a block promises, one named theorem for each promise, for any edition E: over `readingAs E`, which
+-- gives a block's number and count or the refusal `readFaultAs E`, and over `numbersAfterAs E` and `marksAfterAs E`,
+-- which the two lent lists are afterwards. `readingOf` and its kin, of which the reader's contract speaks, are these
+-- at a block's own edition.
 -- Assumes nothing.
 use mathlib.Core.Path.{_≡_, ap, sym, _∙_}
 use mathlib.Core.Logic.{_↔_, _⊎_, inl, inr, ⊎-elim}
@@ -21,7 +22,9 @@ use Rattle.layout.specs.Reading.{readFaultAs, given, refused, readingAs,
 use Rattle.layout.specs.Told.{LaidOutAs}
 use Rattle.layout.proofs.Check.{check-below}
 use Rattle.layout.proofs.Changed.{check-wrong}
-use Rattle.layout.proofs.Faults.{length-fault, check-fault, layout-fault, other-length, wrong-check, other-layout, sound, stage, sound-parts, read-fault, read-sound, faulty, short, room, read-stage}
+use Rattle.layout.proofs.Faults.{length-fault, check-fault, layout-fault, other-length, wrong-check}
+use Rattle.layout.proofs.Faults.{other-layout, sound, stage, sound-parts, read-fault, read-sound, faulty}
+use Rattle.layout.proofs.Faults.{short, room, read-stage}
 use Rattle.layout.proofs.Layouts.{sound-exactly}
 
 -- ---- the check
@@ -31,7 +34,9 @@ pub check-below-2^32 : (b : List ℕ) → Bytes b → checkSum b < 2 ^ 32
 check-below-2^32 = check-below
 
 -- in a sound block any one byte changed is noticed, with 17
-pub changed-byte-noticed : (E : Edition) (b : List ℕ) (i y : ℕ) → faultAs E b ≡ 0 → i < blockLength → (y ≡ byteAt b i → ⊥) → faultAs E (set b i y) ≡ 17
+pub changed-byte-noticed
+    : (E : Edition) (b : List ℕ) (i y : ℕ) → faultAs E b ≡ 0 → i < blockLength → (y ≡ byteAt b i → ⊥) →
+    faultAs E (set b i y) ≡ 17
 changed-byte-noticed E b i y z h n =
     let p = sound-parts E b z in
     check-fault E (set b i y) (length-set b i y ∙ p .0) (check-wrong b y i (p .0) (p .1) h n)
@@ -40,7 +45,8 @@ module _ (E : Edition) (b numbers marks : List ℕ) where
   -- ---- which blocks are accepted, and which refusal the others get
 
   -- a block is accepted exactly when it has the layout and both lists have room
-  pub accepted-exactly : (readFaultAs E b numbers marks ≡ 0) ↔ (LaidOutAs E b × (count b ≤ length numbers) × (count b ≤ length marks))
+  pub accepted-exactly
+      : (readFaultAs E b numbers marks ≡ 0) ↔ (LaidOutAs E b × (count b ≤ length numbers) × (count b ≤ length marks))
   accepted-exactly = (only, λ p. read-sound E b numbers marks (sound-exactly E b .1 (p .0)) (p .1) (p .2))
     where
       only : readFaultAs E b numbers marks ≡ 0 → LaidOutAs E b × (count b ≤ length numbers) × (count b ≤ length marks)
@@ -79,7 +85,8 @@ module _ (E : Edition) (b numbers marks : List ℕ) where
           ]
 
   -- 17 exactly when it is, and the check is wrong
-  pub refused-17-exactly : (readFaultAs E b numbers marks ≡ 17) ↔ ((length b ≡ blockLength) × (check b ≡ checkSum b → ⊥))
+  pub refused-17-exactly
+      : (readFaultAs E b numbers marks ≡ 17) ↔ ((length b ≡ blockLength) × (check b ≡ checkSum b → ⊥))
   refused-17-exactly =
       let f = faults-exactly 17 (λ z. omega arith) (λ z. omega arith) in
       (λ e. only (f .0 e), λ p. f .1 (check-fault E b (p .0) (p .1)))
@@ -95,7 +102,8 @@ module _ (E : Edition) (b numbers marks : List ℕ) where
 
   -- 18 exactly when the check is right, and the layout is another
   pub refused-18-exactly
-      : (readFaultAs E b numbers marks ≡ 18) ↔ ((length b ≡ blockLength) × (check b ≡ checkSum b) × (hasLayoutAs E b ≡ false))
+      : (readFaultAs E b numbers marks ≡ 18)
+      ↔ ((length b ≡ blockLength) × (check b ≡ checkSum b) × (hasLayoutAs E b ≡ false))
   refused-18-exactly =
       let f = faults-exactly 18 (λ z. omega arith) (λ z. omega arith) in
       (λ e. only (f .0 e), λ p. f .1 (layout-fault E b (p .0) (p .1) (p .2)))
@@ -110,15 +118,20 @@ module _ (E : Edition) (b numbers marks : List ℕ) where
           ]
 
   -- in propositions: what `Told` says of a block isn't all so, though its length and its check are right
-  pub refused-18-told : (readFaultAs E b numbers marks ≡ 18) ↔ ((length b ≡ blockLength) × (check b ≡ checkSum b) × (LaidOutAs E b → ⊥))
+  pub refused-18-told
+      : (readFaultAs E b numbers marks ≡ 18) ↔ ((length b ≡ blockLength) × (check b ≡ checkSum b) × (LaidOutAs E b → ⊥))
   refused-18-told = (only, back)
     where
-      only : readFaultAs E b numbers marks ≡ 18 → (length b ≡ blockLength) × (check b ≡ checkSum b) × (LaidOutAs E b → ⊥)
+      only
+          : readFaultAs E b numbers marks ≡ 18 →
+          (length b ≡ blockLength) × (check b ≡ checkSum b) × (LaidOutAs E b → ⊥)
       only e =
           let p = refused-18-exactly .0 e in
           (p .0, p .1, λ l. false≢true (sym (p .2) ∙ sound-parts E b (sound-exactly E b .1 l) .2))
 
-      back : (length b ≡ blockLength) × (check b ≡ checkSum b) × (LaidOutAs E b → ⊥) → readFaultAs E b numbers marks ≡ 18
+      back
+          : (length b ≡ blockLength) × (check b ≡ checkSum b) × (LaidOutAs E b → ⊥) →
+          readFaultAs E b numbers marks ≡ 18
       back p =
           elim (stage E b) [
             | other-length n f ↦ absurd (n (p .0))
@@ -129,10 +142,13 @@ module _ (E : Edition) (b numbers marks : List ℕ) where
 
   -- 19 exactly when the block is sound, and one of the lists has no room for what would be written
   pub refused-19-exactly
-      : (readFaultAs E b numbers marks ≡ 19) ↔ ((faultAs E b ≡ 0) × ((length numbers < count b) ⊎ (length marks < count b)))
+      : (readFaultAs E b numbers marks ≡ 19)
+      ↔ ((faultAs E b ≡ 0) × ((length numbers < count b) ⊎ (length marks < count b)))
   refused-19-exactly = (only, back)
     where
-      only : readFaultAs E b numbers marks ≡ 19 → (faultAs E b ≡ 0) × ((length numbers < count b) ⊎ (length marks < count b))
+      only
+          : readFaultAs E b numbers marks ≡ 19 →
+          (faultAs E b ≡ 0) × ((length numbers < count b) ⊎ (length marks < count b))
       only e =
           elim (read-stage E b numbers marks) [
             | short z s r ↦ (z, s)
@@ -146,7 +162,9 @@ module _ (E : Edition) (b numbers marks : List ℕ) where
                 ]
           ]
 
-      back : (faultAs E b ≡ 0) × ((length numbers < count b) ⊎ (length marks < count b)) → readFaultAs E b numbers marks ≡ 19
+      back
+          : (faultAs E b ≡ 0) × ((length numbers < count b) ⊎ (length marks < count b)) →
+          readFaultAs E b numbers marks ≡ 19
       back p =
           elim (read-stage E b numbers marks) [
             | faulty n r ↦ absurd (n (p .0))
@@ -156,7 +174,10 @@ module _ (E : Edition) (b numbers marks : List ℕ) where
 
   -- no other refusal is given
   pub only-codes
-      : (readFaultAs E b numbers marks ≡ 0) ⊎ ((readFaultAs E b numbers marks ≡ 16) ⊎ ((readFaultAs E b numbers marks ≡ 17) ⊎ ((readFaultAs E b numbers marks ≡ 18) ⊎ (readFaultAs E b numbers marks ≡ 19))))
+      : (readFaultAs E b numbers marks ≡ 0)
+      ⊎ ((readFaultAs E b numbers marks ≡ 16)
+      ⊎ ((readFaultAs E b numbers marks ≡ 17)
+      ⊎ ((readFaultAs E b numbers marks ≡ 18) ⊎ (readFaultAs E b numbers marks ≡ 19))))
   only-codes =
       elim (read-stage E b numbers marks) [
         | short z s r ↦ inr (inr (inr (inr r)))
@@ -173,36 +194,52 @@ module _ (E : Edition) (b numbers marks : List ℕ) where
   -- ---- what is given back
 
   -- where it is accepted, the block's number and its count
-  pub given-where-accepted : readFaultAs E b numbers marks ≡ 0 → readingAs E b numbers marks ≡ given (blockNumber b) (count b)
+  pub given-where-accepted
+      : readFaultAs E b numbers marks ≡ 0 → readingAs E b numbers marks ≡ given (blockNumber b) (count b)
   given-where-accepted e =
-      ap (λ u. cond u (given (blockNumber b) (count b)) (refused (readFaultAs E b numbers marks))) (eq-eqb (readFaultAs E b numbers marks) 0 e)
+      ap (λ u. cond u (given (blockNumber b) (count b)) (refused (readFaultAs E b numbers marks)))
+      (eq-eqb (readFaultAs E b numbers marks) 0 e)
 
   -- where it is refused, the refusal's number at place 0
-  pub refused-at-0 : (readFaultAs E b numbers marks ≡ 0 → ⊥) → readingAs E b numbers marks ≡ refused (readFaultAs E b numbers marks)
+  pub refused-at-0
+      : (readFaultAs E b numbers marks ≡ 0 → ⊥) →
+      readingAs E b numbers marks ≡ refused (readFaultAs E b numbers marks)
   refused-at-0 n =
-      ap (λ u. cond u (given (blockNumber b) (count b)) (refused (readFaultAs E b numbers marks))) (ne-eqb (readFaultAs E b numbers marks) 0 n)
+      ap (λ u. cond u (given (blockNumber b) (count b)) (refused (readFaultAs E b numbers marks)))
+      (ne-eqb (readFaultAs E b numbers marks) 0 n)
 
   -- ---- what the two lists hold afterwards
 
   -- where it is accepted, they are written over from their first place on
   pub written
       : readFaultAs E b numbers marks ≡ 0 →
-      (numbersAfterAs E b numbers marks ≡ over (numberFrom (E .first) b) (count b) numbers) × (marksAfterAs E b numbers marks ≡ over (mark b) (count b) marks)
+      (numbersAfterAs E b numbers marks ≡ over (numberFrom (E .first) b) (count b) numbers)
+      × (marksAfterAs E b numbers marks ≡ over (mark b) (count b) marks)
   written e =
-      let t = eq-eqb (readFaultAs E b numbers marks) 0 e in
-      (ap (λ u. cond u (over (numberFrom (E .first) b) (count b) numbers) numbers) t, ap (λ u. cond u (over (mark b) (count b) marks) marks) t)
+      let t = eq-eqb (readFaultAs E b numbers marks) 0 e in (
+        ap (λ u. cond u (over (numberFrom (E .first) b) (count b) numbers) numbers) t,
+        ap (λ u. cond u (over (mark b) (count b) marks) marks) t,
+      )
 
   -- where the block is refused, both lists stay as they are
-  pub lists-stay : (readFaultAs E b numbers marks ≡ 0 → ⊥) → (numbersAfterAs E b numbers marks ≡ numbers) × (marksAfterAs E b numbers marks ≡ marks)
+  pub lists-stay
+      : (readFaultAs E b numbers marks ≡ 0 → ⊥) →
+      (numbersAfterAs E b numbers marks ≡ numbers) × (marksAfterAs E b numbers marks ≡ marks)
   lists-stay n =
-      let t = ne-eqb (readFaultAs E b numbers marks) 0 n in
-      (ap (λ u. cond u (over (numberFrom (E .first) b) (count b) numbers) numbers) t, ap (λ u. cond u (over (mark b) (count b) marks) marks) t)
+      let t = ne-eqb (readFaultAs E b numbers marks) 0 n in (
+        ap (λ u. cond u (over (numberFrom (E .first) b) (count b) numbers) numbers) t,
+        ap (λ u. cond u (over (mark b) (count b) marks) marks) t,
+      )
 
   -- so, where it is accepted, with its numbers and its marks
-  pub numbers-read : readFaultAs E b numbers marks ≡ 0 → (i : ℕ) → i < count b → getD (numbersAfterAs E b numbers marks) i 0 ≡ numberFrom (E .first) b i
+  pub numbers-read
+      : readFaultAs E b numbers marks ≡ 0 → (i : ℕ) → i < count b →
+      getD (numbersAfterAs E b numbers marks) i 0 ≡ numberFrom (E .first) b i
   numbers-read e i h = ap (λ l. getD l i 0) (written e .0) ∙ over-at (numberFrom (E .first) b) numbers (count b) i h
 
-  pub marks-read : readFaultAs E b numbers marks ≡ 0 → (i : ℕ) → i < count b → getD (marksAfterAs E b numbers marks) i 0 ≡ mark b i
+  pub marks-read
+      : readFaultAs E b numbers marks ≡ 0 → (i : ℕ) → i < count b →
+      getD (marksAfterAs E b numbers marks) i 0 ≡ mark b i
   marks-read e i h = ap (λ l. getD l i 0) (written e .1) ∙ over-at (mark b) marks (count b) i h
 
   -- and nothing past them
@@ -221,11 +258,15 @@ module _ (E : Edition) (b numbers marks : List ℕ) where
       ]
 
   -- neither list gets longer or shorter
-  pub lengths-stay : (length (numbersAfterAs E b numbers marks) ≡ length numbers) × (length (marksAfterAs E b numbers marks) ≡ length marks)
+  pub lengths-stay
+      : (length (numbersAfterAs E b numbers marks) ≡ length numbers)
+      × (length (marksAfterAs E b numbers marks) ≡ length marks)
   lengths-stay =
       elim (ℕ-discrete (readFaultAs E b numbers marks) 0) [
         | yes e ↦
-            let p = accepted-exactly .0 e in
-            (ap length (written e .0) ∙ length-over (numberFrom (E .first) b) numbers (count b) (p .1), ap length (written e .1) ∙ length-over (mark b) marks (count b) (p .2))
+            let p = accepted-exactly .0 e in (
+              ap length (written e .0) ∙ length-over (numberFrom (E .first) b) numbers (count b) (p .1),
+              ap length (written e .1) ∙ length-over (mark b) marks (count b) (p .2),
+            )
         | no n ↦ (ap length (lists-stay n .0), ap length (lists-stay n .1))
       ]

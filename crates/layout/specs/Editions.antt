@@ -1,4 +1,5 @@
--- The places of a block. What stands where in every edition is named here once; what an edition has of its own is a record.
+-- The places of a block. What stands where in every edition is named here once; what an edition has of its own is a
+-- record.
 -- Assumes nothing.
 use mathlib.Core.Path.{_≡_, refl}
 use mathlib.Core.List.{List, [], _∷_}

@@ -1,5 +1,6 @@
--- The layout of a block of an edition, which is 512 bytes. Of edition 1: 0..3 block number; 4 count c, 0 to 55; 5 edition, 1; 6..7 zero; 8..447 fifty-five
--- numbers; 448..502 their marks; 503..507 zero; 508..511 the check. Unused numbers and marks are zero.
+-- The layout of a block of an edition, which is 512 bytes. Of edition 1: 0..3 block number; 4 count c, 0 to 55; 5
+-- edition, 1; 6..7 zero; 8..447 fifty-five numbers; 448..502 their marks; 503..507 zero; 508..511 the check. Unused
+-- numbers and marks are zero.
 -- Assumes nothing.
 use mathlib.Core.Bool.{Bool, _&&_}
 use mathlib.Core.List.{List}

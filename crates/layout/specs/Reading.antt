@@ -13,7 +13,8 @@ use Rattle.layout.specs.Sound.{faultAs}
 -- a block's refusal, then 19 where one of two lent lists has no room for the values; 0 is none
 unfoldable pub readFaultAs : Edition → List ℕ → List ℕ → List ℕ → ℕ
 readFaultAs E b numbers marks =
-    cond (eqb (faultAs E b) 0) (cond (leb (count b) (length numbers) && leb (count b) (length marks)) 0 19) (faultAs E b)
+    cond (eqb (faultAs E b) 0) (cond (leb (count b) (length numbers) && leb (count b) (length marks)) 0 19)
+    (faultAs E b)
 
 -- a refusal's number and place, or 0, 0 and the block's number and count
 pub record Reading : Type 0 where
@@ -30,7 +31,8 @@ given n c = record { code = 0; place = 0; number = n; count = c }
 
 abbrev pub readingAs : Edition → List ℕ → List ℕ → List ℕ → Reading
 readingAs E b numbers marks =
-    cond (eqb (readFaultAs E b numbers marks) 0) (given (blockNumber b) (count b)) (refused (readFaultAs E b numbers marks))
+    cond (eqb (readFaultAs E b numbers marks) 0) (given (blockNumber b) (count b))
+    (refused (readFaultAs E b numbers marks))
 
 -- count numbers and count marks are written, and nothing past them; on refusal both lists stay as they are
 abbrev pub numbersAfterAs : Edition → List ℕ → List ℕ → List ℕ → List ℕ

@@ -1,5 +1,5 @@
--- The layout of a block once more, each sentence of it a proposition. A block has no fault exactly when they hold: `sound-exactly`. The places in the
--- comments are those of edition 1.
+-- The layout of a block once more, each sentence of it a proposition. A block has no fault exactly when they hold:
+-- `sound-exactly`. The places in the comments are those of edition 1.
 -- Assumes nothing.
 use mathlib.Core.Path.{_≡_}
 use mathlib.Core.Logic.{_⊎_}

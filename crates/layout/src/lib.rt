@@ -1,4 +1,5 @@
-// The places of a block, for the crates that look at one: the numbers of `specs/Editions.antt`. There is no function here.
+// The places of a block, for the crates that look at one: the numbers of `specs/Editions.antt`. There is no function
+// here.
 
 // A block is so many bytes.
 pub const BLOCK_LENGTH: usize = 512;

@@ -55,6 +55,7 @@ module _ (at : ℕ) (b : List ℕ) where
       sym
       (ap (λ m. part m 8 b) (sym (add-zero at))
       ∙ next-four 0 4 (omega arith)
-      ∙ ap (λ l. byteAt b (at + 0) ∷ byteAt b (at + 1) ∷ byteAt b (at + 2) ∷ byteAt b (at + 3) ∷ l) (next-four 4 0 (omega arith))
+      ∙ ap (λ l. byteAt b (at + 0) ∷ byteAt b (at + 1) ∷ byteAt b (at + 2) ∷ byteAt b (at + 3) ∷ l)
+      (next-four 4 0 (omega arith))
       ∙ ap (λ m. byteAt b m ∷ byteAt b (at + 1) ∷ byteAt b (at + 2) ∷ byteAt b (at + 3)
       ∷ byteAt b (at + 4) ∷ byteAt b (at + 5) ∷ byteAt b (at + 6) ∷ byteAt b (at + 7) ∷ []) (add-zero at))

@@ -1,9 +1,11 @@
--- Numbers as bytes, little-endian: from a number to its bytes and back, the number of two lists one after the other, and the numbers of parts of a list.
+-- Numbers as bytes, little-endian: from a number to its bytes and back, the number of two lists one after the other,
+-- and the numbers of parts of a list.
 -- Assumes nothing.
 use mathlib.Core.Path.{_≡_, refl, ap, ap₂, sym, _∙_}
 use mathlib.Core.List.{List, [], _∷_, _++_}
 use Prim.Native.Nat.{ℕ, zero, suc, _+_, _*_, _/_, _%_, _^_, _≤_, _<_}
-use native.Mathlib.Nat.{mod-add-div, mod-lt, div-one, div-div-eq-div-mul, div-eq-of-lt, pow-zero, pow-succ', pow-le-pow-right}
+use native.Mathlib.Nat.{mod-add-div, mod-lt, div-one, div-div-eq-div-mul, div-eq-of-lt, pow-zero, pow-succ'}
+use native.Mathlib.Nat.{pow-le-pow-right}
 use native.Mathlib.Decide.{decLt}
 use native.Mathlib.Omega.{arith}
 use lib.Arith.{digits-div, digits-mod}
@@ -114,7 +116,8 @@ little-one from b h = ap (λ l. little (take 1 l)) (drop-cons b from 0 h) ∙ om
 -- a part in two
 pub little-split
     : (from j k : ℕ) (b : List ℕ)
-    → from + (j + k) ≤ length b → little (part from (j + k) b) ≡ little (part from j b) + 256 ^ j * little (part (from + j) k b)
+    → from + (j + k) ≤ length b →
+    little (part from (j + k) b) ≡ little (part from j b) + 256 ^ j * little (part (from + j) k b)
 little-split from j k b h =
     let s : length (part from j b) ≡ j = length-take-le j (drop from b) (omega (arith, length-drop from b)) in
     ap little (take-add j k (drop from b)) ∙ little-append (part from j b) (take k (drop j (drop from b)))

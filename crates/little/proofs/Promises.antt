@@ -1,4 +1,5 @@
--- What numbers as bytes promise. The functions' contracts give the number or the byte itself, so each leaves one answer.
+-- What numbers as bytes promise. The functions' contracts give the number or the byte itself, so each leaves one
+-- answer.
 -- Assumes nothing.
 use mathlib.Core.Path.{_≡_}
 use mathlib.Core.List.{List}

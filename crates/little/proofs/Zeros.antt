@@ -21,12 +21,14 @@ unfolding zeros
 zeros-at from to b z i l h =
     let e : from + (i - from) ≡ i = omega arith in
     let k : i - from < to - from = omega arith in
-    ap (byteAt b) (sym e) ∙ eqb-true (byteAt b (from + (i - from))) 0 (every-at (λ j. zeroAt b (from + j)) (to - from) (i - from) z k)
+    ap (byteAt b) (sym e)
+    ∙ eqb-true (byteAt b (from + (i - from))) 0 (every-at (λ j. zeroAt b (from + j)) (to - from) (i - from) z k)
 
 pub zeros-of : (from to : ℕ) (b : List ℕ) → ((i : ℕ) → from ≤ i → i < to → byteAt b i ≡ 0) → zeros from to b ≡ true
 unfolding zeros
 zeros-of from to b z =
-    every-of (λ j. zeroAt b (from + j)) (to - from) (λ j h. eq-eqb (byteAt b (from + j)) 0 (z (from + j) (omega arith) (omega arith)))
+    every-of (λ j. zeroAt b (from + j)) (to - from)
+    (λ j h. eq-eqb (byteAt b (from + j)) 0 (z (from + j) (omega arith) (omega arith)))
 
 -- no byte
 pub zeros-none : (from : ℕ) (b : List ℕ) → zeros from from b ≡ true
@@ -43,13 +45,17 @@ zeros-more from i b h =
     ap (every f) s ∙ every-more f (i - from) ∙ ap (λ k. every f (i - from) && zeroAt b k) e
 
 -- a part of what is zero is zero
-pub zeros-within : (b : List ℕ) (from to low high : ℕ) → from ≤ low → high ≤ to → zeros from to b ≡ true → zeros low high b ≡ true
-zeros-within b from to low high l h z = zeros-of low high b (λ i g k. zeros-at from to b z i (omega arith) (omega arith))
+pub zeros-within
+    : (b : List ℕ) (from to low high : ℕ) → from ≤ low → high ≤ to → zeros from to b ≡ true → zeros low high b ≡ true
+zeros-within b from to low high l h z =
+    zeros-of low high b (λ i g k. zeros-at from to b z i (omega arith) (omega arith))
 
 -- zeros next to zeros
-pub zeros-joined : (b : List ℕ) (from via to : ℕ) → zeros from via b ≡ true → zeros via to b ≡ true → zeros from to b ≡ true
+pub zeros-joined
+    : (b : List ℕ) (from via to : ℕ) → zeros from via b ≡ true → zeros via to b ≡ true → zeros from to b ≡ true
 zeros-joined b from via to y z =
-    zeros-of from to b (λ i g k. elim (decLt i via) [ yes l ↦ zeros-at from via b y i g l | no n ↦ zeros-at via to b z i (omega arith) k ])
+    zeros-of from to b
+    (λ i g k. elim (decLt i via) [ yes l ↦ zeros-at from via b y i g l | no n ↦ zeros-at via to b z i (omega arith) k ])
 
 -- what is past a list's end counts as zero
 pub zeros-clamped : (from to : ℕ) (b : List ℕ) → zeros from (min to (length b)) b ≡ zeros from to b
@@ -66,7 +72,8 @@ zeros-clamped from to b =
         ]
 
 -- the end of a walk that goes from place `from` up to place `to`, and nowhere where that lies before it
-pub zeros-walked : (from to i : ℕ) (b : List ℕ) → from ≤ i → to ≤ i → (to < i → i ≡ from) → zeros from i b ≡ zeros from to b
+pub zeros-walked
+    : (from to i : ℕ) (b : List ℕ) → from ≤ i → to ≤ i → (to < i → i ≡ from) → zeros from i b ≡ zeros from to b
 unfolding zeros
 zeros-walked from to i b h k n =
     let e : i - from ≡ to - from = elim (decLt to i) [ yes l ↦ let e = n l in omega arith | no l ↦ omega arith ] in

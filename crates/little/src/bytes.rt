@@ -1,5 +1,6 @@
-// Numbers put together from their bytes, single bytes of a number, and whether bytes are all zero. No function asks anything of its
-// caller, so that every crate shares them; where a number's bytes stand side by side, a compiler makes one load or one store of them.
+// Numbers put together from their bytes, single bytes of a number, and whether bytes are all zero. No function asks
+// anything of its caller, so that every crate shares them; where a number's bytes stand side by side, a compiler
+// makes one load or one store of them.
 ghost use mathlib.Core.Path.{_≡_};
 ghost use mathlib.Core.List.{[], _∷_};
 ghost use Prim.Native.Nat.{min};
@@ -43,8 +44,8 @@ fn lesser(a: usize, b: usize) -> usize
     a
 }
 
-// Whether the bytes from place `from` to before place `to` are zero; what is past the list's end counts as zero. There is no early
-// exit: the bytes are joined by 'or', which a compiler does sixteen at a time.
+// Whether the bytes from place `from` to before place `to` are zero; what is past the list's end counts as zero.
+// There is no early exit: the bytes are joined by 'or', which a compiler does sixteen at a time.
 pub fn all_zero(b: &[u8], from: usize, to: usize) -> bool
     ensures { λ r. ⌜ r ≡ zeros from to (now (b .entry)) ⌝ }
 {

@@ -1,4 +1,5 @@
--- The earliest place with a fault: that there is one or none, where it is, and exactly when an answer is the one given there.
+-- The earliest place with a fault: that there is one or none, where it is, and exactly when an answer is the one
+-- given there.
 -- Assumes nothing.
 use mathlib.Core.Path.{_≡_, refl, ap, sym, _∙_, subst}
 use mathlib.Core.Logic.{_↔_}
@@ -31,7 +32,8 @@ module _ (fault : ℕ → ℕ) (n : ℕ) where
   pub first-fault-is : (i : ℕ) → i < n → (fault i ≡ 0 → ⊥) → NoFaultBefore fault i → firstFault fault n ≡ i
   first-fault-is i h f b =
       let l : i < 0 + n = omega arith in
-      first-is (faulty fault) 0 n i (omega arith) l (ap not (ne-eqb (fault i) 0 f)) (λ j k m. ap not (eq-eqb (fault j) 0 (b j m)))
+      first-is (faulty fault) 0 n i (omega arith) l (ap not (ne-eqb (fault i) 0 f))
+      (λ j k m. ap not (eq-eqb (fault j) 0 (b j m)))
 
   -- where no place has one, it is the place after them
   pub no-fault-is : NoFaultBefore fault n → firstFault fault n ≡ n
@@ -109,5 +111,7 @@ module _ (fault : ℕ → ℕ) (n : ℕ) where
             only e =
                 elim walk [
                   | faultless b ↦ b
-                  | faulty-at j m f ↦ absurd (m (sym (code-of (fault j) j) ∙ ap code (sym (answer-at (fault j) j m f) ∙ e) ∙ code-of-none))
+                  | faulty-at j m f ↦
+                      let r = sym (answer-at (fault j) j m f) ∙ e in
+                      absurd (m (sym (code-of (fault j) j) ∙ ap code r ∙ code-of-none))
                 ]

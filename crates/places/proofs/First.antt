@@ -64,7 +64,8 @@ module _ (f : ℕ → Bool) where
 
   -- ---- that says which place it is
 
-  pub first-is : (i k j : ℕ) → i ≤ j → j < i + k → f j ≡ true → ((l : ℕ) → i ≤ l → l < j → f l ≡ false) → firstFrom f i k ≡ j
+  pub first-is
+      : (i k j : ℕ) → i ≤ j → j < i + k → f j ≡ true → ((l : ℕ) → i ≤ l → l < j → f l ≡ false) → firstFrom f i k ≡ j
   first-is i k j l h e n =
       let w = first-within i k in
       elim (ℕ-discrete (firstFrom f i k) j) [

@@ -1,4 +1,5 @@
--- Laws on the first place, on every place, on sums over places, on lists written place by place, and on the earliest fault.
+-- Laws on the first place, on every place, on sums over places, on lists written place by place, and on the earliest
+-- fault.
 pub mod First
 pub mod Every
 pub mod Totals

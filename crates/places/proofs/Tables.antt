@@ -36,11 +36,13 @@ module _ (f : ℕ → ℕ) (old : List ℕ) where
   pub over-more : (n : ℕ) → n < length old → set (over f n old) n (f n) ≡ over f (suc n) old
   unfolding table
   over-more n h =
-      ap (λ l. set (table f n ++ l) n (f n)) (drop-cons old n 0 h) ∙ set-at (table f n) (getD old n 0) (drop (suc n) old) (f n) n (length-table f n)
+      ap (λ l. set (table f n ++ l) n (f n)) (drop-cons old n 0 h)
+      ∙ set-at (table f n) (getD old n 0) (drop (suc n) old) (f n) n (length-table f n)
       ∙ sym (append-assoc (table f n) (f n ∷ []) (drop (suc n) old))
 
   pub length-over : (n : ℕ) → n ≤ length old → length (over f n old) ≡ length old
-  length-over n h = length-append (table f n) (drop n old) ∙ (let a = length-table f n in let b = length-drop n old in omega arith)
+  length-over n h =
+      length-append (table f n) (drop n old) ∙ (let a = length-table f n in let b = length-drop n old in omega arith)
 
   pub over-at : (n j : ℕ) → j < n → getD (over f n old) j 0 ≡ f j
   over-at n j h =
@@ -52,4 +54,7 @@ module _ (f : ℕ → ℕ) (old : List ℕ) where
   over-past n j h =
       let e : length (table f n) + (j - n) ≡ j = omega (arith, length-table f n) in
       let g : n + (j - n) ≡ j = omega arith in
-      ap (λ i. getD (over f n old) i 0) (sym e) ∙ getD-append-add (table f n) (drop n old) (j - n) 0 ∙ getD-drop n old (j - n) 0 ∙ ap (λ i. getD old i 0) g
+      ap (λ i. getD (over f n old) i 0) (sym e)
+      ∙ getD-append-add (table f n) (drop n old) (j - n) 0
+      ∙ getD-drop n old (j - n) 0
+      ∙ ap (λ i. getD old i 0) g

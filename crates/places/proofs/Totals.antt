@@ -59,12 +59,14 @@ total-swapped f (suc m) n =
 
 -- ---- column by column
 
--- the sum over w * h places of (i + 1) times f, from the sums of each of w columns of h places: of f, and of f times its row
+-- the sum over w * h places of (i + 1) times f, from the sums of each of w columns of h places: of f, and of f times
+-- its row
 pub by-columns
     : (f : ℕ → ℕ) (w h : ℕ) →
     total (λ j. w * total (λ q. q * f (w * q + j)) h + suc j * total (λ q. f (w * q + j)) h) w ≡ total (λ i. suc i * f i) (w * h)
 by-columns f w h =
-    total-same (λ j. w * total (λ q. q * f (w * q + j)) h + suc j * total (λ q. f (w * q + j)) h) (λ j. total (λ q. suc (w * q + j) * f (w * q + j)) h) w (λ j l. column j)
+    total-same (λ j. w * total (λ q. q * f (w * q + j)) h + suc j * total (λ q. f (w * q + j)) h)
+    (λ j. total (λ q. suc (w * q + j) * f (w * q + j)) h) w (λ j l. column j)
     ∙ sym (total-swapped (λ q j. suc (w * q + j) * f (w * q + j)) h w)
     ∙ sym (total-rows (λ i. suc i * f i) w h)
   where
@@ -91,7 +93,8 @@ total-at-most f most (suc n) h =
 -- ---- one place changed
 
 -- f and g differ at place i alone
-pub total-changed : (f g : ℕ → ℕ) (i n : ℕ) → i < n → ((j : ℕ) → (j ≡ i → ⊥) → f j ≡ g j) → total f n + g i ≡ total g n + f i
+pub total-changed
+    : (f g : ℕ → ℕ) (i n : ℕ) → i < n → ((j : ℕ) → (j ≡ i → ⊥) → f j ≡ g j) → total f n + g i ≡ total g n + f i
 unfolding total
 total-changed f g i zero l e = absurd (omega arith)
 total-changed f g i (suc n) l e =

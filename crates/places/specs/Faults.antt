@@ -1,4 +1,5 @@
--- The earliest place with a fault, and which. A place's fault is a refusal's number, given as a function of the place; 0 is none.
+-- The earliest place with a fault, and which. A place's fault is a refusal's number, given as a function of the
+-- place; 0 is none.
 -- Assumes nothing.
 use mathlib.Core.Path.{_≡_}
 use mathlib.Core.Bool.{Bool, not, cond}
@@ -13,9 +14,11 @@ faulty fault i = not (eqb (fault i) 0)
 abbrev pub firstFault : (ℕ → ℕ) → ℕ → ℕ
 firstFault fault n = first (faulty fault) n
 
--- what is answered at the earliest of n places with a fault, given its number and place; or what is answered where there is none
+-- what is answered at the earliest of n places with a fault, given its number and place; or what is answered where
+-- there is none
 abbrev pub atFirstFault : {A : Type 0} → (ℕ → ℕ) → ℕ → (ℕ → ℕ → A) → A → A
-atFirstFault fault n refused none = cond (ltb (firstFault fault n) n) (refused (fault (firstFault fault n)) (firstFault fault n)) none
+atFirstFault fault n refused none =
+    cond (ltb (firstFault fault n) n) (refused (fault (firstFault fault n)) (firstFault fault n)) none
 
 -- ---- in the words of the promises
 

@@ -1,4 +1,5 @@
--- What holds at the places 0 to n - 1, and what is worked out over them. A place's own value is given as a function of its number.
+-- What holds at the places 0 to n - 1, and what is worked out over them. A place's own value is given as a function
+-- of its number.
 -- Assumes nothing.
 use mathlib.Core.Bool.{Bool, true, false, _&&_}
 use mathlib.Core.List.{List, [], _∷_, _++_}

@@ -1,4 +1,5 @@
--- Whether the search ends at a block: it passes a quiet one, and ends at a bad one and at the first overflowed place of a sound one.
+-- Whether the search ends at a block: it passes a quiet one, and ends at a bad one and at the first overflowed place
+-- of a sound one.
 -- Assumes nothing.
 use mathlib.Core.Path.{_≡_, ap, sym, _∙_}
 use mathlib.Core.Bool.{cond}
@@ -21,7 +22,8 @@ module _ (b : List ℕ) where
   unfolding firstOverflowed
   first-overflowed i (h, e, n) =
       let l : i < 0 + count b = omega arith in
-      first-is (overflowedAt b) 0 (count b) i (omega arith) l (eq-eqb (mark b i) 1 e) (λ j k m. ne-eqb (mark b j) 1 (n j m))
+      first-is (overflowedAt b) 0 (count b) i (omega arith) l (eq-eqb (mark b i) 1 e)
+      (λ j k m. ne-eqb (mark b j) 1 (n j m))
 
   none-overflowed : ((i : ℕ) → i < count b → mark b i ≡ 1 → ⊥) → firstOverflowed b ≡ count b
   unfolding firstOverflowed
@@ -33,8 +35,11 @@ module _ (b : List ℕ) where
   unfolding firstOverflowed
   overflowed-place h =
       let p = firstOverflowed b in
-      let l : p < 0 + count b = omega arith in
-      (h, eqb-true (mark b p) 1 (first-holds (overflowedAt b) 0 (count b) l), λ j k. eqb-false (mark b j) 1 (none-before (overflowedAt b) 0 (count b) j (omega arith) k))
+      let l : p < 0 + count b = omega arith in (
+        h,
+        eqb-true (mark b p) 1 (first-holds (overflowedAt b) 0 (count b) l),
+        λ j k. eqb-false (mark b j) 1 (none-before (overflowedAt b) 0 (count b) j (omega arith) k),
+      )
 
   no-place : count b ≤ firstOverflowed b → (i : ℕ) → i < count b → mark b i ≡ 1 → ⊥
   unfolding firstOverflowed

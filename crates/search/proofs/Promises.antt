@@ -1,5 +1,5 @@
--- What the search over a run of blocks promises, one named theorem for each promise. The function's contract says that its answer is the one of `searchOf`;
--- `Unique` says that no other answer is.
+-- What the search over a run of blocks promises, one named theorem for each promise. The function's contract says
+-- that its answer is the one of `searchOf`; `Unique` says that no other answer is.
 -- Assumes nothing.
 use mathlib.Core.Path.{_≡_, refl, ap, sym, _∙_, subst}
 use mathlib.Core.Logic.{_↔_, _⊎_, inl, inr, ⊎-elim}
@@ -8,11 +8,12 @@ use Prim.Native.Nat.{ℕ, _<_}
 use native.Mathlib.Omega.{arith}
 use Rattle.layout.specs.Runs.{blocks, Whole}
 use Rattle.search.specs.Search.{refused, none, foundAt, QuietBefore, searchOf, BadBlock, OverflowedBlock}
-use Rattle.search.proofs.Stages.{at-partial, at-bad, at-overflowed, at-none, partial, all-quiet, bad-block, overflowed-block, stage}
+use Rattle.search.proofs.Stages.{at-partial, at-bad, at-overflowed, at-none, partial, all-quiet, bad-block}
+use Rattle.search.proofs.Stages.{overflowed-block, stage}
 
 module _ (run : List ℕ) where
-  -- place i of the block at position p is found exactly when the run has whole blocks, every block before p is quiet, and block p is sound with i its
-  -- first overflowed place
+  -- place i of the block at position p is found exactly when the run has whole blocks, every block before p is quiet,
+  -- and block p is sound with i its first overflowed place
   pub found-exactly : (p i : ℕ) → (searchOf run ≡ foundAt p i) ↔ (Whole run × OverflowedBlock run p i)
   found-exactly p i = (only, λ w. at-overflowed run p i (w .0) (w .1 .0) (w .1 .1) (w .1 .2) (w .1 .3))
     where
@@ -23,8 +24,11 @@ module _ (run : List ℕ) where
             | all-quiet z q s ↦ let f : ⊥ = omega (arith, ap (λ s. s .found) (sym s ∙ r)) in absurd f
             | bad-block z k h n q s ↦ absurd (n (ap (λ s. s .code) (sym s ∙ r)))
             | overflowed-block z k j h e f q s ↦
-                let same = ap (λ s. s .position) (sym s ∙ r) in
-                (z, subst (λ j. OverflowedBlock run p j) (ap (λ s. s .within) (sym s ∙ r)) (subst (λ k. OverflowedBlock run k j) same (h, e, f, q)))
+                let same = ap (λ s. s .position) (sym s ∙ r) in (
+                  z,
+                  subst (λ j. OverflowedBlock run p j) (ap (λ s. s .within) (sym s ∙ r))
+                      (subst (λ k. OverflowedBlock run k j) same (h, e, f, q)),
+                )
           ]
 
   -- none exactly when it has whole blocks and every one is quiet
@@ -40,8 +44,8 @@ module _ (run : List ℕ) where
             | overflowed-block z k j h e f q s ↦ let f : ⊥ = omega (arith, ap (λ s. s .found) (sym s ∙ r)) in absurd f
           ]
 
-  -- a refusal c with position p is given exactly when it is 16 with 0 and the run is no multiple of 512 bytes, or it is one, every block before p is quiet,
-  -- and c is the fault of block p
+  -- a refusal c with position p is given exactly when it is 16 with 0 and the run is no multiple of 512 bytes, or it
+  -- is one, every block before p is quiet, and c is the fault of block p
   pub refused-exactly
       : (c p : ℕ) →
       (c ≡ 0 → ⊥) →

@@ -13,8 +13,10 @@ use Rattle.places.proofs.Faults.{walk, faulty-at, faultless, answer-at, answer-
 use Rattle.layout.specs.Editions.{blockLength}
 use Rattle.layout.specs.Sound.{faultOf}
 use Rattle.layout.specs.Runs.{blocks, blockAt, Whole}
-use Rattle.search.specs.Search.{Searched, refused, none, foundAt, firstOverflowed, OverflowsFirstAt, QuietBefore, endedAt, endAt, searchBlocks, searchOf}
-use Rattle.search.proofs.Ends.{first-overflowed, ends-at-bad, ends-at-overflowed, passes-quiet, quiet-passed, quiet, bad, overflowed, kind}
+use Rattle.search.specs.Search.{Searched, refused, none, foundAt, firstOverflowed, OverflowsFirstAt}
+use Rattle.search.specs.Search.{QuietBefore, endedAt, endAt, searchBlocks, searchOf}
+use Rattle.search.proofs.Ends.{first-overflowed, ends-at-bad, ends-at-overflowed, passes-quiet, quiet-passed}
+use Rattle.search.proofs.Ends.{quiet, bad, overflowed, kind}
 
 module _ (run : List ℕ) where
   -- ---- the answer at each stage

@@ -14,10 +14,13 @@ pub found-unique : (a b : Found) → searched a ≡ searched b → a ≡ b
 found-unique = one searched foundBack found-back
   where
     foundBack : Searched → Found
-    foundBack s = cond (eqb (s .code) 0) (cond (eqb (s .found) 0) None (Overflowed (s .position) (s .within))) (Refused (refusalOf (s .code)) (s .place))
+    foundBack s =
+        cond (eqb (s .code) 0) (cond (eqb (s .found) 0) None (Overflowed (s .position) (s .within)))
+        (Refused (refusalOf (s .code)) (s .place))
 
     found-back : (f : Found) → foundBack (searched f) ≡ f
     found-back (Overflowed position place) = refl
     found-back None = refl
     found-back (Refused r position) =
-        ap (λ t. cond t None (Refused (refusalOf (numberOf r)) position)) (not-zero r) ∙ ap (λ r. Refused r position) (refusal-back r)
+        ap (λ t. cond t None (Refused (refusalOf (numberOf r)) position)) (not-zero r)
+        ∙ ap (λ r. Refused r position) (refusal-back r)

@@ -44,19 +44,26 @@ no-marks-quiet b z m =
 
 -- ---- the walk ended, with every block before position p passed
 
-module _ (run : List ℕ) (n : ℕ) (whole : length run ≡ blockLength * n) (p : ℕ) (passed : NoFaultBefore (endAt run) p) where
-  abbrev there : p < n → p < blocks run
-  there h = omega (arith, blocks-are run n whole)
+module _
+    (run : List ℕ)
+    (n : ℕ)
+    (whole : length run ≡ blockLength * n)
+    (p : ℕ)
+    (passed : NoFaultBefore (endAt run) p)
+  where
+    abbrev there : p < n → p < blocks run
+    there h = omega (arith, blocks-are run n whole)
 
-  pub bad-ends : (c : ℕ) → p < n → faultOf (blockAt run p) ≡ c → (c ≡ 0 → ⊥) → refused c p ≡ searchOf run
-  bad-ends c h f z =
-      ap (λ c. refused c p) (sym f)
-      ∙ sym (at-bad run p (whole-run run n whole) (there h) (λ e. z (sym f ∙ e)) (quiet-before run p passed))
+    pub bad-ends : (c : ℕ) → p < n → faultOf (blockAt run p) ≡ c → (c ≡ 0 → ⊥) → refused c p ≡ searchOf run
+    bad-ends c h f z =
+        ap (λ c. refused c p) (sym f)
+        ∙ sym (at-bad run p (whole-run run n whole) (there h) (λ e. z (sym f ∙ e)) (quiet-before run p passed))
 
-  pub found-ends
-      : (i : ℕ) → p < n → faultOf (blockAt run p) ≡ 0 → OverflowsFirstAt (blockAt run p) i → foundAt p i ≡ searchOf run
-  found-ends i h z f = sym (at-overflowed run p i (whole-run run n whole) (there h) z f (quiet-before run p passed))
+    pub found-ends
+        : (i : ℕ) → p < n → faultOf (blockAt run p) ≡ 0 → OverflowsFirstAt (blockAt run p) i → foundAt p i ≡ searchOf run
+    found-ends i h z f = sym (at-overflowed run p i (whole-run run n whole) (there h) z f (quiet-before run p passed))
 
-  pub none-ends : n ≤ p → none ≡ searchOf run
-  none-ends h =
-      sym (at-none run (whole-run run n whole) (λ q k. quiet-before run p passed q (omega (arith, blocks-are run n whole))))
+    pub none-ends : n ≤ p → none ≡ searchOf run
+    none-ends h =
+        sym
+        (at-none run (whole-run run n whole) (λ q k. quiet-before run p passed q (omega (arith, blocks-are run n whole))))

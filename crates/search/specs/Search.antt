@@ -1,5 +1,5 @@
--- The search over a run of whole blocks. Each block is checked whole before its marks count; the first overflowed value ends the search, and so does the
--- first bad block reached.
+-- The search over a run of whole blocks. Each block is checked whole before its marks count; the first overflowed
+-- value ends the search, and so does the first bad block reached.
 -- Assumes nothing.
 use mathlib.Core.Path.{_≡_}
 use mathlib.Core.Bool.{Bool, cond}
@@ -14,7 +14,8 @@ use Rattle.layout.specs.Layout.{count, mark}
 use Rattle.layout.specs.Sound.{faultOf}
 use Rattle.layout.specs.Runs.{blocks, blockAt}
 
--- a refusal's number and position; or 0, 0 and whether a value was found (1) or none (0), with its block's position and its place
+-- a refusal's number and position; or 0, 0 and whether a value was found (1) or none (0), with its block's position
+-- and its place
 pub record Searched : Type 0 where
   pub code : ℕ
   pub place : ℕ
@@ -85,4 +86,5 @@ BadBlock run c p = (p < blocks run) × (faultOf (blockAt run p) ≡ c) × QuietB
 
 -- the block at position p of the run is sound, place i is its first overflowed one, and every block before it is quiet
 abbrev pub OverflowedBlock : List ℕ → ℕ → ℕ → Type 0
-OverflowedBlock run p i = (p < blocks run) × (faultOf (blockAt run p) ≡ 0) × OverflowsFirstAt (blockAt run p) i × QuietBefore run p
+OverflowedBlock run p i =
+    (p < blocks run) × (faultOf (blockAt run p) ≡ 0) × OverflowsFirstAt (blockAt run p) i × QuietBefore run p

@@ -1,4 +1,5 @@
-// The first overflowed value of a run of blocks. Each block is checked whole, as the reader does, before its marks count.
+// The first overflowed value of a run of blocks. Each block is checked whole, as the reader does, before its marks
+// count.
 use crate::types::Found;
 use block::sound::sound;
 use block::sound::unmarked;

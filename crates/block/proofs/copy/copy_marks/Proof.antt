@@ -40,7 +40,8 @@ loop-again : tie.Need-loop-again Inv-loop μ-loop
 loop-again c =
     let g = c .before .before .before .args in
     let l = c .before .before .loop in (
-      copy-turn (mark (g .b .now)) (g .marks .now) (l .marks) (l .i) (l .inv .0) (mark (g .b .now) (l .i)) refl (omega arith),
+      copy-turn (mark (g .b .now)) (g .marks .now) (l .marks) (l .i) (l .inv .0)
+          (mark (g .b .now) (l .i)) refl (omega arith),
       simp length-set (l .inv .1),
       omega arith,
     )

@@ -13,13 +13,20 @@ use Rattle.block.proofs.copy.copy_numbers.Statement.{statement}
 use Rattle.block.proofs.copy.copy_numbers.Tie as tie
 
 abbrev Inv-loop : tie.InvT-loop
-Inv-loop b first count numbers₀ i₀ numbers i = (numbers ≡ over (numberFrom first b) i numbers₀) × (length numbers ≡ length numbers₀) × (i ≤ count)
+Inv-loop b first count numbers₀ i₀ numbers i =
+    (numbers ≡ over (numberFrom first b) i numbers₀) × (length numbers ≡ length numbers₀) × (i ≤ count)
 
 abbrev μ-loop : tie.MeasureT-loop
 μ-loop b first count numbers₀ i₀ numbers i = count - i
 
 loop-holds : tie.Need-loop-holds Inv-loop μ-loop
-loop-holds c = (sym (over-none (numberFrom (c .before .before .args .first) (c .before .before .args .b .now)) (c .before .before .args .numbers .now)), refl, omega arith)
+loop-holds c = (
+  sym
+      (over-none (numberFrom (c .before .before .args .first) (c .before .before .args .b .now))
+      (c .before .before .args .numbers .now)),
+  refl,
+  omega arith,
+)
 
 mul-long-at : tie.Need-mul-long-at Inv-loop μ-loop
 mul-long-at c = search needs
@@ -47,7 +54,8 @@ unfolding numberFrom
 loop-again c =
     let g = c .before .before .before .before .before .args in
     let l = c .before .before .loop in (
-      copy-turn (numberFrom (g .first) (g .b .now)) (g .numbers .now) (l .numbers) (l .i) (l .inv .0) (c .long-at .result) (c .long-at .ensures) (omega arith),
+      copy-turn (numberFrom (g .first) (g .b .now)) (g .numbers .now) (l .numbers) (l .i) (l .inv .0)
+          (c .long-at .result) (c .long-at .ensures) (omega arith),
       simp length-set (l .inv .1),
       omega arith,
     )
@@ -59,7 +67,8 @@ returns : tie.Need-returns Inv-loop μ-loop
 returns c =
     let g = c .before .before .before .before .args in
     let l = c .before .loop in
-    copy-end (numberFrom (g .first) (g .b .now)) (g .numbers .now) (l .numbers) (l .i) (l .inv .0) (g .count) (omega arith)
+    copy-end (numberFrom (g .first) (g .b .now)) (g .numbers .now) (l .numbers) (l .i) (l .inv .0) (g .count)
+    (omega arith)
 
 pub copy-numbers-spec : {M : Type 1} → statement M
 copy-numbers-spec =

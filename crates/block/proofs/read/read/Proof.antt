@@ -20,7 +20,8 @@ enum-told : tie.Need-enum-told
 enum-told c = search needs
 
 values-requires : tie.Need-values-requires
-values-requires c κs = sym (c .before .before .before .before .sound .ensures) ∙ ap fault (c .before .before .enum-told .given .1)
+values-requires c κs =
+    sym (c .before .before .before .before .sound .ensures) ∙ ap fault (c .before .before .enum-told .given .1)
 
 enum-known-refusal : tie.Need-enum-known-refusal
 enum-known-refusal c = search needs
@@ -42,7 +43,19 @@ returns-2 c =
     let r = c .before .refusal .given .0 .0 in
     let f : faultOf (a .block .now) ≡ numberOf r = sym (d .sound .ensures) ∙ ap fault (c .before .refusal .given .1) in
     let n : numberOf r ≡ 0 → ⊥ = eqb-false (numberOf r) 0 (not-zero r) in
-    refused-so (editionOf (a .block .now)) (a .block .now) (a .numbers .now) (a .marks .now) (numberOf r) (read-fault (editionOf (a .block .now)) (a .block .now) (a .numbers .now) (a .marks .now) (λ z. n (sym f ∙ z)) ∙ f) n
+    refused-so (editionOf (a .block .now)) (a .block .now) (a .numbers .now) (a .marks .now) (numberOf r)
+    (read-fault (editionOf (a .block .now)) (a .block .now) (a .numbers .now) (a .marks .now) (λ z. n (sym f ∙ z)) ∙ f)
+    n
 
 pub read-spec : {M : Type 1} → statement M
-read-spec = tie.close (tie.spec sound-requires enum-told values-requires enum-known-refusal same-length same-length-2 returns returns-2)
+read-spec =
+    tie.close
+    (tie.spec
+    sound-requires
+    enum-told
+    values-requires
+    enum-known-refusal
+    same-length
+    same-length-2
+    returns
+    returns-2)

@@ -31,13 +31,16 @@ returns : tie.Need-returns
 returns c =
     let s = c .before .before .before .before .before in
     let a = s .args in
-    refused-so one (a .block .now) (a .numbers .now) (a .marks .now) 19 (numbers-short one (a .block .now) (a .numbers .now) (a .marks .now) (s .pre) (c .if1 .taken)) (λ e. omega arith)
+    refused-so one (a .block .now) (a .numbers .now) (a .marks .now) 19
+    (numbers-short one (a .block .now) (a .numbers .now) (a .marks .now) (s .pre) (c .if1 .taken)) (λ e. omega arith)
 
 returns-2 : tie.Need-returns-2
 returns-2 c =
     let s = c .before .before .before .before .before .before in
     let a = s .args in
-    refused-so one (a .block .now) (a .numbers .now) (a .marks .now) 19 (marks-short one (a .block .now) (a .numbers .now) (a .marks .now) (s .pre) (c .before .if1 .left) (c .if2 .taken)) (λ e. omega arith)
+    refused-so one (a .block .now) (a .numbers .now) (a .marks .now) 19
+    (marks-short one (a .block .now) (a .numbers .now) (a .marks .now) (s .pre) (c .before .if1 .left) (c .if2 .taken))
+    (λ e. omega arith)
 
 copy-numbers-requires : tie.Need-copy-numbers-requires
 copy-numbers-requires c κs =
@@ -55,7 +58,8 @@ copy-marks-requires c κs =
 
 word-at-requires : tie.Need-word-at-requires
 word-at-requires c κs =
-    let s = c .before .before .before .before .before .before .before .before .before .before .before .before .before .before in
+    let s =
+    c .before .before .before .before .before .before .before .before .before .before .before .before .before .before in
     let z = sound-sizes one (s .args .block .now) (s .pre) in omega (arith, z .0)
 
 same-length : tie.Need-same-length
@@ -70,8 +74,27 @@ returns-3 c =
     let s = e .before .before .before .before .before .before in
     let a = s .args in
     let b = a .block .now in
-    let r = given-so one b (a .numbers .now) (a .marks .now) (read-sound one b (a .numbers .now) (a .marks .now) (s .pre) (e .before .if1 .left) (e .if2 .left)) in
-    (ap (λ n. given n (count b)) (c .word-at .ensures ∙ number-read b) ∙ r .0, (c .before .before .before .before .before .before .before .copy-numbers .ensures ∙ r .1 .0, c .before .before .before .copy-marks .ensures ∙ r .1 .1))
+    let r =
+    given-so one b (a .numbers .now) (a .marks .now)
+    (read-sound one b (a .numbers .now) (a .marks .now) (s .pre) (e .before .if1 .left) (e .if2 .left)) in (
+      ap (λ n. given n (count b)) (c .word-at .ensures ∙ number-read b) ∙ r .0,
+      (
+        c .before .before .before .before .before .before .before .copy-numbers .ensures ∙ r .1 .0,
+        c .before .before .before .copy-marks .ensures ∙ r .1 .1,
+      ),
+    )
 
 pub values-spec : {M : Type 1} → statement M
-values-spec = tie.close (tie.spec shared-slice-read-count cast-count returns returns-2 copy-numbers-requires copy-marks-requires word-at-requires same-length same-length-2 returns-3)
+values-spec =
+    tie.close
+    (tie.spec
+    shared-slice-read-count
+    cast-count
+    returns
+    returns-2
+    copy-numbers-requires
+    copy-marks-requires
+    word-at-requires
+    same-length
+    same-length-2
+    returns-3)

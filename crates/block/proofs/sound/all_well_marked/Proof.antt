@@ -29,7 +29,9 @@ returns : tie.Need-returns Inv-loop μ-loop
 returns c =
     let l = c .before .before .before in
     let a = l .before .before .args in
-    sym (every-fails (placeWellMarked (a .first) (a .b .now)) (a .count) (l .loop .i) (omega arith) (sym (c .before .well-marked .ensures) ∙ not-true (c .before .well-marked .result) (c .if1 .taken)))
+    sym
+    (every-fails (placeWellMarked (a .first) (a .b .now)) (a .count) (l .loop .i) (omega arith)
+    (sym (c .before .well-marked .ensures) ∙ not-true (c .before .well-marked .result) (c .if1 .taken)))
 
 add-i : tie.Need-add-i Inv-loop μ-loop
 add-i c = search needs
@@ -41,8 +43,13 @@ loop-again : tie.Need-loop-again Inv-loop μ-loop
 loop-again c =
     let l = c .before .before .before in
     let a = l .before .before .args in
-    let f = placeWellMarked (a .first) (a .b .now) in
-    (ap (every f) (add-one (l .loop .i)) ∙ every-more f (l .loop .i) ∙ ap₂ _&&_ (l .loop .inv .0) (sym (c .before .well-marked .ensures) ∙ not-false (c .before .well-marked .result) (c .if1 .left)), omega arith)
+    let f = placeWellMarked (a .first) (a .b .now) in (
+      ap (every f) (add-one (l .loop .i))
+          ∙ every-more f (l .loop .i)
+          ∙ ap₂ _&&_ (l .loop .inv .0)
+          (sym (c .before .well-marked .ensures) ∙ not-false (c .before .well-marked .result) (c .if1 .left)),
+      omega arith,
+    )
 
 returns-2 : tie.Need-returns-2 Inv-loop μ-loop
 returns-2 c =
@@ -52,4 +59,15 @@ returns-2 c =
     sym (ap (every (placeWellMarked (a .first) (a .b .now))) (sym e) ∙ l .loop .inv .0)
 
 pub all-well-marked-spec : {M : Type 1} → statement M
-all-well-marked-spec = tie.close (tie.spec Inv-loop μ-loop loop-holds well-marked-requires returns add-i loop-less loop-again returns-2)
+all-well-marked-spec =
+    tie.close
+    (tie.spec
+    Inv-loop
+    μ-loop
+    loop-holds
+    well-marked-requires
+    returns
+    add-i
+    loop-less
+    loop-again
+    returns-2)

@@ -37,7 +37,14 @@ all-zero-requires c κs = search needs
 returns-3 : tie.Need-returns-3
 returns-3 c =
     let b = c .before .before .before .before .before .before .before .args .b .now in
-    sym (no-layout one b (λ l. false≢true (sym (not-true (c .before .all-zero .result) (c .if3 .taken)) ∙ c .before .all-zero .ensures ∙ sym (head-of-one b) ∙ l .headed)))
+    sym
+    (no-layout one b
+    (λ l.
+    false≢true
+    (sym (not-true (c .before .all-zero .result) (c .if3 .taken))
+    ∙ c .before .all-zero .ensures
+    ∙ sym (head-of-one b)
+    ∙ l .headed)))
 
 mul-all-zero : tie.Need-mul-all-zero
 mul-all-zero c = search needs
@@ -51,7 +58,13 @@ all-zero-requires-2 c κs = search needs
 returns-4 : tie.Need-returns-4
 returns-4 c =
     let b = c .before .before .before .before .before .before .before .before .before .args .b .now in
-    sym (no-layout one b (λ l. false≢true (sym (not-true (c .before .all-zero2 .result) (c .if4 .taken)) ∙ c .before .all-zero2 .ensures ∙ l .unused-numbers)))
+    sym
+    (no-layout one b
+    (λ l.
+    false≢true
+    (sym (not-true (c .before .all-zero2 .result) (c .if4 .taken))
+    ∙ c .before .all-zero2 .ensures
+    ∙ l .unused-numbers)))
 
 marks-fine-requires : tie.Need-marks-fine-requires
 marks-fine-requires c κs = search needs
@@ -65,7 +78,23 @@ returns-5 c =
     (eq-eqb (edition b) (one .tag) (d .before .before .before .before .if1 .left))
     (le-leb (count b) (one .most) (d .before .before .if2 .left))
     (head-of-one b ∙ sym (d .before .all-zero .ensures) ∙ not-false (d .before .all-zero .result) (d .if3 .left))
-    (sym (c .before .before .all-zero2 .ensures) ∙ not-false (c .before .before .all-zero2 .result) (c .before .if4 .left))
+    (sym (c .before .before .all-zero2 .ensures)
+    ∙ not-false (c .before .before .all-zero2 .result) (c .before .if4 .left))
 
 pub has-layout-one-spec : {M : Type 1} → statement M
-has-layout-one-spec = tie.close (tie.spec shared-slice-read-if1 returns shared-slice-read-count cast-count returns-2 all-zero-requires returns-3 mul-all-zero add-all-zero all-zero-requires-2 returns-4 marks-fine-requires returns-5)
+has-layout-one-spec =
+    tie.close
+    (tie.spec
+    shared-slice-read-if1
+    returns
+    shared-slice-read-count
+    cast-count
+    returns-2
+    all-zero-requires
+    returns-3
+    mul-all-zero
+    add-all-zero
+    all-zero-requires-2
+    returns-4
+    marks-fine-requires
+    returns-5)

@@ -18,10 +18,17 @@ unfolding check
 check-read b = refl
 
 -- the check is right
-right : (c : tie.After-has-layout-one) → check (c .before .before .before .before .before .before .args .block .now) ≡ checkSum (c .before .before .before .before .before .before .args .block .now)
+right
+    : (c : tie.After-has-layout-one) →
+    check (c .before .before .before .before .before .before .args .block .now)
+    ≡ checkSum (c .before .before .before .before .before .before .args .block .now)
 right c =
     let b = c .before .before .before .before .before .before .args .block .now in
-    check-read b ∙ sym (c .before .before .before .word-at .ensures) ∙ c .before .if2 .left ∙ c .before .before .check-sum .ensures ∙ sum-of-block b (c .before .before .before .before .if1 .left)
+    check-read b
+    ∙ sym (c .before .before .before .word-at .ensures)
+    ∙ c .before .if2 .left
+    ∙ c .before .before .check-sum .ensures
+    ∙ sum-of-block b (c .before .before .before .before .if1 .left)
 
 returns : tie.Need-returns
 returns c = sym (length-fault one (c .before .before .args .block .now) (c .if1 .taken))
@@ -35,7 +42,14 @@ check-sum-requires c κs = search needs
 returns-2 : tie.Need-returns-2
 returns-2 c =
     let b = c .before .before .before .before .before .args .block .now in
-    sym (check-fault one b (c .before .before .before .if1 .left) (λ e. c .if2 .taken (c .before .before .word-at .ensures ∙ sym (check-read b) ∙ e ∙ sym (c .before .check-sum .ensures ∙ sum-of-block b (c .before .before .before .if1 .left)))))
+    sym
+    (check-fault one b (c .before .before .before .if1 .left)
+    (λ e.
+    c .if2 .taken
+    (c .before .before .word-at .ensures
+    ∙ sym (check-read b)
+    ∙ e
+    ∙ sym (c .before .check-sum .ensures ∙ sum-of-block b (c .before .before .before .if1 .left)))))
 
 has-layout-one-requires : tie.Need-has-layout-one-requires
 has-layout-one-requires c κs = search needs
@@ -43,12 +57,25 @@ has-layout-one-requires c κs = search needs
 returns-3 : tie.Need-returns-3
 returns-3 c =
     let b = c .before .before .before .before .before .before .before .args .block .now in
-    sym (sound-fault one b (c .before .before .before .before .before .if1 .left) (right (c .before)) (sym (c .before .has-layout-one .ensures) ∙ c .if3 .taken))
+    sym
+    (sound-fault one b (c .before .before .before .before .before .if1 .left) (right (c .before))
+    (sym (c .before .has-layout-one .ensures) ∙ c .if3 .taken))
 
 returns-4 : tie.Need-returns-4
 returns-4 c =
     let b = c .before .before .before .before .before .before .before .args .block .now in
-    sym (layout-fault one b (c .before .before .before .before .before .if1 .left) (right (c .before)) (sym (c .before .has-layout-one .ensures) ∙ c .if3 .left))
+    sym
+    (layout-fault one b (c .before .before .before .before .before .if1 .left) (right (c .before))
+    (sym (c .before .has-layout-one .ensures) ∙ c .if3 .left))
 
 pub sound-spec : {M : Type 1} → statement M
-sound-spec = tie.close (tie.spec returns word-at-requires check-sum-requires returns-2 has-layout-one-requires returns-3 returns-4)
+sound-spec =
+    tie.close
+    (tie.spec
+    returns
+    word-at-requires
+    check-sum-requires
+    returns-2
+    has-layout-one-requires
+    returns-3
+    returns-4)

@@ -24,7 +24,8 @@ returns-2 : tie.Need-returns-2
 unfolding noMarks
 returns-2 c =
     let b = c .before .before .before .args .block .now in
-    c .all-zero .ensures ∙ sym (ap (λ t. t && zeros marksAt (one .past) b) (eq-eqb (length b) blockLength (c .before .if1 .left)))
+    c .all-zero .ensures
+    ∙ sym (ap (λ t. t && zeros marksAt (one .past) b) (eq-eqb (length b) blockLength (c .before .if1 .left)))
 
 pub unmarked-spec : {M : Type 1} → statement M
 unmarked-spec = tie.close (tie.spec returns all-zero-requires returns-2)

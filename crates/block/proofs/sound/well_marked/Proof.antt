@@ -31,7 +31,8 @@ returns c =
 returns-2 : tie.Need-returns-2
 returns-2 c =
     let a = c .before .before .before .before .args in
-    marked-above-1 (byteAt (a .b .now) (marksAt + a .i)) (numberFrom (a .first) (a .b .now) (a .i)) (c .before .if1 .left) (c .if2 .taken)
+    marked-above-1 (byteAt (a .b .now) (marksAt + a .i)) (numberFrom (a .first) (a .b .now) (a .i))
+    (c .before .if1 .left) (c .if2 .taken)
 
 mul-long-at : tie.Need-mul-long-at
 mul-long-at c = search needs
@@ -45,7 +46,18 @@ long-at-requires c = search needs
 returns-3 : tie.Need-returns-3
 returns-3 c =
     let a = c .before .before .before .before .before .args in
-    ap (λ n. eqb n 0) (c .long-at .ensures ∙ number-read (a .first) (a .b .now) (a .i)) ∙ marked-1 (byteAt (a .b .now) (marksAt + a .i)) (numberFrom (a .first) (a .b .now) (a .i)) (c .before .if2 .left)
+    ap (λ n. eqb n 0) (c .long-at .ensures ∙ number-read (a .first) (a .b .now) (a .i))
+    ∙ marked-1 (byteAt (a .b .now) (marksAt + a .i)) (numberFrom (a .first) (a .b .now) (a .i)) (c .before .if2 .left)
 
 pub well-marked-spec : {M : Type 1} → statement M
-well-marked-spec = tie.close (tie.spec add-mark shared-slice-read-mark returns returns-2 mul-long-at add-long-at long-at-requires returns-3)
+well-marked-spec =
+    tie.close
+    (tie.spec
+    add-mark
+    shared-slice-read-mark
+    returns
+    returns-2
+    mul-long-at
+    add-long-at
+    long-at-requires
+    returns-3)

@@ -17,11 +17,13 @@ abbrev μ-loop : tie.MeasureT-loop
 -- the sums of column j are small
 here
     : (d : tie.In-loop Inv-loop μ-loop) →
-    (getD (d .before .loop .all) (d .before .loop .j) 0 ≤ 2040) × (getD (d .before .loop .rows) (d .before .loop .j) 0 ≤ 14280)
+    (getD (d .before .loop .all) (d .before .loop .j) 0 ≤ 2040)
+    × (getD (d .before .loop .rows) (d .before .loop .j) 0 ≤ 14280)
 here d =
     let g = d .before .before .args in
     let l = d .before .loop in
-    column-small (g .b .now) (g .at) (g .all .now) (g .rows .now) (d .before .before .pre .2) (l .j) (l .all) (l .rows) (l .inv) (d .loop-test .taken)
+    column-small (g .b .now) (g .at) (g .all .now) (g .rows .now) (d .before .before .pre .2) (l .j) (l .all)
+    (l .rows) (l .inv) (d .loop-test .taken)
 
 loop-holds : tie.Need-loop-holds Inv-loop μ-loop
 loop-holds c = added-none (c .args .b .now) (c .args .at) (c .args .all .now) (c .args .rows .now)
@@ -60,10 +62,21 @@ shared-slice-read-all : tie.Need-shared-slice-read-all Inv-loop μ-loop
 shared-slice-read-all c = search needs
 
 cast-all : tie.Need-cast-all Inv-loop μ-loop
-cast-all c = omega (arith, c .shared-slice-known .given (c .before .before .before .before .before .before .args .at + c .before .before .before .before .before .loop .j))
+cast-all c =
+    omega (
+      arith,
+      c .shared-slice-known .given
+          (c .before .before .before .before .before .before .args .at + c .before .before .before .before .before .loop .j),
+    )
 
 add-all-2 : tie.Need-add-all-2 Inv-loop μ-loop
-add-all-2 c = omega (arith, here (c .before .before .before .before), c .shared-slice-known .given (c .before .before .before .before .before .before .args .at + c .before .before .before .before .before .loop .j))
+add-all-2 c =
+    omega (
+      arith,
+      here (c .before .before .before .before),
+      c .shared-slice-known .given
+          (c .before .before .before .before .before .before .args .at + c .before .before .before .before .before .loop .j),
+    )
 
 mul-all-2 : tie.Need-mul-all-2 Inv-loop μ-loop
 mul-all-2 c = search needs
@@ -82,7 +95,8 @@ loop-again c =
     let d = c .before .before .before .before in
     let g = d .before .before .args in
     let l = d .before .loop in
-    added-more (g .b .now) (g .at) (g .all .now) (g .rows .now) (d .before .before .pre .2) (l .j) (l .all) (l .rows) (l .inv) (d .loop-test .taken)
+    added-more (g .b .now) (g .at) (g .all .now) (g .rows .now) (d .before .before .pre .2) (l .j) (l .all) (l .rows)
+    (l .inv) (d .loop-test .taken)
 
 returns : tie.Need-returns Inv-loop μ-loop
 returns c =
@@ -91,4 +105,28 @@ returns c =
     added-all (g .b .now) (g .at) (g .all .now) (g .rows .now) (l .j) (l .all) (l .rows) (l .inv) (c .loop-test .left)
 
 pub add-row-spec : {M : Type 1} → statement M
-add-row-spec = tie.close (tie.spec Inv-loop μ-loop loop-holds mul-rows element-copy-out-rows mul-rows-2 element-copy-out-rows-2 add-rows mul-rows-3 element-write-rows mul-all element-copy-out-all add-all shared-slice-read-all cast-all add-all-2 mul-all-2 element-write-all add-j loop-less loop-again returns)
+add-row-spec =
+    tie.close
+    (tie.spec
+    Inv-loop
+    μ-loop
+    loop-holds
+    mul-rows
+    element-copy-out-rows
+    mul-rows-2
+    element-copy-out-rows-2
+    add-rows
+    mul-rows-3
+    element-write-rows
+    mul-all
+    element-copy-out-all
+    add-all
+    shared-slice-read-all
+    cast-all
+    add-all-2
+    mul-all-2
+    element-write-all
+    add-j
+    loop-less
+    loop-again
+    returns)

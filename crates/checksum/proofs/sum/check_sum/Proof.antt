@@ -35,8 +35,8 @@ rest c =
     let l = c .before .before .before .before .before in
     let b = block l in
     let t : l .loop .row ≡ 0 = omega arith in
-    let w =
-    c .before .weigh .ensures ∙ columns-weigh b (l .loop .all) (l .loop .rows) (subst (λ n. Columns b n (l .loop .all) (l .loop .rows)) t (l .loop .inv .0)) in
+    let all-rows = subst (λ n. Columns b n (l .loop .all) (l .loop .rows)) t (l .loop .inv .0) in
+    let w = c .before .weigh .ensures ∙ columns-weigh b (l .loop .all) (l .loop .rows) all-rows in
     omega (arith, w, c .own .ensures)
 
 loop-holds : tie.Need-loop-holds Inv-loop μ-loop
@@ -50,8 +50,11 @@ mul-add-row c = search needs
 
 add-row-requires : tie.Need-add-row-requires Inv-loop μ-loop
 add-row-requires c κs =
-    let l = c .before .before .before in
-    (omega arith, omega arith, columns-small (block l) (bytes l) (l .loop .row) (l .loop .all) (l .loop .rows) (l .loop .inv .0))
+    let l = c .before .before .before in (
+      omega arith,
+      omega arith,
+      columns-small (block l) (bytes l) (l .loop .row) (l .loop .all) (l .loop .rows) (l .loop .inv .0),
+    )
 
 loop-less : tie.Need-loop-less Inv-loop μ-loop
 loop-less c = search needs
@@ -61,7 +64,8 @@ loop-again c =
     let l = c .before .before .before .before in
     let b = block l in
     let e : l .loop .row ≡ suc (l .loop .row - 1) = omega arith in
-    let s = columns-more b (l .loop .row - 1) (l .loop .all) (l .loop .rows) (subst (λ n. Columns b n (l .loop .all) (l .loop .rows)) e (l .loop .inv .0)) in (
+    let before = subst (λ n. Columns b n (l .loop .all) (l .loop .rows)) e (l .loop .inv .0) in
+    let s = columns-more b (l .loop .row - 1) (l .loop .all) (l .loop .rows) before in (
       subst (λ n. Columns b (l .loop .row - 1) n (c .add-row .last .1 .1 .1 .0)) (sym (c .add-row .ensures .0))
           (subst (λ n. Columns b (l .loop .row - 1) (allMore b (64 * (l .loop .row - 1)) (l .loop .all)) n)
           (sym (c .add-row .ensures .1)) s),
@@ -88,4 +92,19 @@ returns-2 c =
     omega (arith, rest c, sum-of-block (block l) (l .before .if1 .left))
 
 pub check-sum-spec : {M : Type 1} → statement M
-check-sum-spec = tie.close (tie.spec Inv-loop μ-loop returns loop-holds sub-row mul-add-row add-row-requires loop-less loop-again weigh-requires own-requires sub-result returns-2)
+check-sum-spec =
+    tie.close
+    (tie.spec
+    Inv-loop
+    μ-loop
+    returns
+    loop-holds
+    sub-row
+    mul-add-row
+    add-row-requires
+    loop-less
+    loop-again
+    weigh-requires
+    own-requires
+    sub-result
+    returns-2)

@@ -35,7 +35,9 @@ module _ (c : tie.After-shared-slice-known Inv-loop μ-loop) where
   i = c .before .before .loop .i
 
   here
-      : (weighed b i ≤ 130560) × (total (weighed b) i ≤ 66846720) × (total (weighed b) (i + 1) ≡ total (weighed b) i + weighed b i)
+      : (weighed b i ≤ 130560)
+      × (total (weighed b) i ≤ 66846720)
+      × (total (weighed b) (i + 1) ≡ total (weighed b) i + weighed b i)
   here =
       let bytes : Bytes b = λ j. c .shared-slice-known .given j .fits in (
         weighed-at-most b i bytes (c .before .loop-test .taken),
@@ -80,4 +82,19 @@ returns c =
     l .loop .inv .0 ∙ ap (total (weighed (l .before .args .b .now))) e
 
 pub own-spec : {M : Type 1} → statement M
-own-spec = tie.close (tie.spec Inv-loop μ-loop loop-holds cast-sum add-sum shared-slice-read-sum cast-sum-2 mul-sum add-sum-2 add-i loop-less loop-again returns)
+own-spec =
+    tie.close
+    (tie.spec
+    Inv-loop
+    μ-loop
+    loop-holds
+    cast-sum
+    add-sum
+    shared-slice-read-sum
+    cast-sum-2
+    mul-sum
+    add-sum-2
+    add-i
+    loop-less
+    loop-again
+    returns)

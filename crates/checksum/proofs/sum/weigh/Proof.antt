@@ -32,7 +32,10 @@ module _ (c : tie.In-loop Inv-loop μ-loop) where
   j = c .before .loop .j
 
   here
-      : (getD all j 0 ≤ 2040) × (getD rows j 0 ≤ 14280) × (columnWeight all rows j ≤ 1044480) × (total (columnWeight all rows) j ≤ 66846720)
+      : (getD all j 0 ≤ 2040)
+      × (getD rows j 0 ≤ 14280)
+      × (columnWeight all rows j ≤ 1044480)
+      × (total (columnWeight all rows) j ≤ 66846720)
       × (total (columnWeight all rows) (j + 1) ≡ total (columnWeight all rows) j + columnWeight all rows j)
   here =
       let s = c .before .before .pre in
@@ -93,7 +96,30 @@ loop-again : tie.Need-loop-again Inv-loop μ-loop
 loop-again c = (omega (arith, here (c .before .before)), omega arith)
 
 returns : tie.Need-returns Inv-loop μ-loop
-returns c = c .before .loop .inv .0 ∙ ap (total (columnWeight (c .before .before .args .all .now) (c .before .before .args .rows .now))) (omega arith)
+returns c =
+    c .before .loop .inv .0
+    ∙ ap (total (columnWeight (c .before .before .args .all .now) (c .before .before .args .rows .now))) (omega arith)
 
 pub weigh-spec : {M : Type 1} → statement M
-weigh-spec = tie.close (tie.spec Inv-loop μ-loop loop-holds mul-sum element-copy-out-sum cast-sum mul-sum-2 cast-sum-2 add-sum mul-sum-3 element-copy-out-sum-2 cast-sum-3 mul-sum-4 add-sum-2 add-sum-3 add-j loop-less loop-again returns)
+weigh-spec =
+    tie.close
+    (tie.spec
+    Inv-loop
+    μ-loop
+    loop-holds
+    mul-sum
+    element-copy-out-sum
+    cast-sum
+    mul-sum-2
+    cast-sum-2
+    add-sum
+    mul-sum-3
+    element-copy-out-sum-2
+    cast-sum-3
+    mul-sum-4
+    add-sum-2
+    add-sum-3
+    add-j
+    loop-less
+    loop-again
+    returns)

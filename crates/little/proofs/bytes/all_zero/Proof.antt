@@ -1,5 +1,5 @@
--- `bytes::all_zero` meets its contract. The invariant: the bytes passed, joined, are zero where each of them is; and nothing is passed
--- where the end lies before the start.
+-- `bytes::all_zero` meets its contract. The invariant: the bytes passed, joined, are zero where each of them is; and
+-- nothing is passed where the end lies before the start.
 -- Assumes nothing.
 use mathlib.Core.Path.{_≡_, ap, sym, _∙_}
 use Prim.Native.Nat.{_-_, _≤_, _<_}

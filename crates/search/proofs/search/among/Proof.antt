@@ -1,5 +1,6 @@
--- `search::among` meets its contract. The outer invariant: every block before this one is passed. The inner one: no place before this one is overflowed.
--- The ways out of the outer loop are its own end and the exit from within the inner one.
+-- `search::among` meets its contract. The outer invariant: every block before this one is passed. The inner one: no
+-- place before this one is overflowed. The ways out of the outer loop are its own end and the exit from within the
+-- inner one.
 -- Assumes nothing.
 use mathlib.Core.Path.{_≡_, ap, sym, _∙_, subst}
 use mathlib.Core.Logic.{⊎-elim}
@@ -57,17 +58,28 @@ module _ (d : tie.In-search Inv-loop μ-loop Inv-search μ-search) where
   same = block-taken run position
 
   block-whole : length block ≡ blockLength
-  block-whole = ap length same ∙ block-length run blocks (d .before .before .before .pre) position (d .search-test .taken)
+  block-whole =
+      ap length same ∙ block-length run blocks (d .before .before .before .pre) position (d .search-test .taken)
 
 -- it is sound, and has at most 55 values
-sound-here : (c : tie.After-enum-told Inv-loop μ-loop Inv-search μ-search) → faultOf (block (c .before .before .before .before)) ≡ 0
+sound-here
+    : (c : tie.After-enum-told Inv-loop μ-loop Inv-search μ-search) →
+    faultOf (block (c .before .before .before .before)) ≡ 0
 sound-here c = sym (c .before .before .sound .ensures) ∙ ap fault (c .enum-told .given .1)
 
-count-here : (c : tie.After-enum-told Inv-loop μ-loop Inv-search μ-search) → getD (block (c .before .before .before .before)) 4 0 ≤ 55
-count-here c = sound-sizes (editionOf (block (c .before .before .before .before))) (block (c .before .before .before .before)) (sound-here c) .1
+count-here
+    : (c : tie.After-enum-told Inv-loop μ-loop Inv-search μ-search) →
+    getD (block (c .before .before .before .before)) 4 0 ≤ 55
+count-here c =
+    sound-sizes (editionOf (block (c .before .before .before .before))) (block (c .before .before .before .before))
+    (sound-here c) .1
 
 -- it is passed where the walk goes on
-passed : (c : tie.Joined1 Inv-loop μ-loop Inv-search μ-search) → Quiet (blockAt (run (c .before .before .before .before .before .before)) (position (c .before .before .before .before .before .before)))
+passed
+    : (c : tie.Joined1 Inv-loop μ-loop Inv-search μ-search) →
+    Quiet
+    (blockAt (run (c .before .before .before .before .before .before))
+    (position (c .before .before .before .before .before .before)))
 passed c =
     let d = c .before .before .before .before .before .before in
     let b = block d in
@@ -75,7 +87,8 @@ passed c =
     subst Quiet (same d)
     (⊎-elim
     (λ w. (z, λ i h. w .2 .inv .0 i (omega (arith, w .3 .left))))
-    (λ w. no-marks-quiet b z (sym (c .before .unmarked .ensures) ∙ not-false (c .before .unmarked .result) (w .0 .left)))
+    (λ w.
+    no-marks-quiet b z (sym (c .before .unmarked .ensures) ∙ not-false (c .before .unmarked .result) (w .0 .left)))
     (c .if1 .came))
 
 search-holds : tie.Need-search-holds Inv-loop μ-loop Inv-search μ-search
@@ -106,7 +119,8 @@ returns : tie.Need-returns Inv-loop μ-loop Inv-search μ-search
 returns c =
     let d = c .before .before .before .before .before in
     let r = c .before .refusal .given .0 .0 in
-    let f : faultOf (block d) ≡ numberOf r = sym (c .before .before .before .sound .ensures) ∙ ap fault (c .before .refusal .given .1) in
+    let f : faultOf (block d) ≡ numberOf r =
+    sym (c .before .before .before .sound .ensures) ∙ ap fault (c .before .refusal .given .1) in
     bad-ends (run d) (blocks d) (d .before .before .before .pre) (position d) (d .before .search .inv .0) (numberOf r)
     (d .search-test .taken) (ap faultOf (sym (same d)) ∙ f) (eqb-false (numberOf r) 0 (not-zero r))
 
@@ -129,7 +143,12 @@ add-if2 : tie.Need-add-if2 Inv-loop μ-loop Inv-search μ-search
 add-if2 c = omega (arith, count-here (c .before .before .before .before .before))
 
 shared-slice-read-if2 : tie.Need-shared-slice-read-if2 Inv-loop μ-loop Inv-search μ-search
-shared-slice-read-if2 c = omega (arith, count-here (c .before .before .before .before .before .before), block-whole (c .before .before .before .before .before .before .before .before .before .before))
+shared-slice-read-if2 c =
+    omega (
+      arith,
+      count-here (c .before .before .before .before .before .before),
+      block-whole (c .before .before .before .before .before .before .before .before .before .before),
+    )
 
 add-i : tie.Need-add-i Inv-loop μ-loop Inv-search μ-search
 add-i c = omega (arith, count-here (c .before .before .before .before .before .before .before))
@@ -139,8 +158,11 @@ loop-less c = omega arith
 
 loop-again : tie.Need-loop-again Inv-loop μ-loop Inv-search μ-search
 loop-again c =
-    let l = c .before .before .before in
-    (none-before-more (block (l .before .before .before .before .before .before .before .before)) (l .loop .i) (l .loop .inv .0) (c .if2 .left), omega arith)
+    let l = c .before .before .before in (
+      none-before-more (block (l .before .before .before .before .before .before .before .before)) (l .loop .i)
+          (l .loop .inv .0) (c .if2 .left),
+      omega arith,
+    )
 
 add-position : tie.Need-add-position Inv-loop μ-loop Inv-search μ-search
 add-position c = search needs
@@ -150,8 +172,11 @@ search-less c = omega arith
 
 search-again : tie.Need-search-again Inv-loop μ-loop Inv-search μ-search
 search-again c =
-    let d = c .before .before .before .before .before .before in
-    (no-fault-before-more (endAt (run d)) (position d) (d .before .search .inv .0) (passes-quiet (blockAt (run d) (position d)) (passed c)), omega arith)
+    let d = c .before .before .before .before .before .before in (
+      no-fault-before-more (endAt (run d)) (position d) (d .before .search .inv .0)
+          (passes-quiet (blockAt (run d) (position d)) (passed c)),
+      omega arith,
+    )
 
 returns-2 : tie.Need-returns-2 Inv-loop μ-loop Inv-search μ-search
 returns-2 c =
@@ -178,4 +203,34 @@ returns-3 c =
     (c .before .search-test .came)
 
 pub among-spec : {M : Type 1} → statement M
-among-spec = tie.close (tie.spec Inv-loop μ-loop Inv-search μ-search search-holds mul-from add-to sub-block part-block-start part-block-end sound-requires enum-known-refusal returns enum-told unmarked-requires shared-slice-read-count cast-count loop-holds add-if2 shared-slice-read-if2 add-i loop-less loop-again add-position search-less search-again returns-2 returns-3)
+among-spec =
+    tie.close
+    (tie.spec
+    Inv-loop
+    μ-loop
+    Inv-search
+    μ-search
+    search-holds
+    mul-from
+    add-to
+    sub-block
+    part-block-start
+    part-block-end
+    sound-requires
+    enum-known-refusal
+    returns
+    enum-told
+    unmarked-requires
+    shared-slice-read-count
+    cast-count
+    loop-holds
+    add-if2
+    shared-slice-read-if2
+    add-i
+    loop-less
+    loop-again
+    add-position
+    search-less
+    search-again
+    returns-2
+    returns-3)
