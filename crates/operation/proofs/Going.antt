@@ -1,5 +1,5 @@
--- The further steps of an operation as the code's loops take them: what is left of the allowance a brings it from here as far as
--- it brought it from before the step.
+-- The further steps of an operation as the code's loops take them: what is left of the allowance a brings it from here
+-- as far as it brought it from before the step.
 -- Assumes nothing.
 use mathlib.Core.Path.{_≡_, refl, ap, sym, _∙_}
 use Prim.Native.Nat.{ℕ, zero, suc, _+_, _-_, _/_, _≤_, _<_}
@@ -12,7 +12,7 @@ use Rattle.steps.specs.declared.types.Power.{Power}
 use Rattle.steps.specs.declared.types.Logarithm.{Logarithm}
 use Rattle.steps.specs.Steps.{Outcome, value, within, fails, powerStep, logarithmStep}
 use Rattle.operation.specs.Work.{Reach, reach, goneOn}
-use Rattle.operation.proofs.Outcomes.{dividing-goes, dividing-ends}
+use Rattle.operation.proofs.Outcomes.{inLogarithm, dividing-goes, dividing-ends}
 
 -- ---- no further step
 
@@ -68,14 +68,17 @@ module _ (M a t : ℕ) where
         : (q : Logarithm) → q .left / q .base < q .base →
         reach (value (Fits (q .count + 1))) (t + 1) ≡ goneOn M (a - t) t (within (InLogarithm q))
     logarithm-value q h =
-        let e = ap (λ n. value (Fits n)) (add-one (q .count)) ∙ dividing-ends (q .base) (q .left / q .base) (suc (q .count)) h in
+        let e =
+        ap (λ n. value (Fits n)) (add-one (q .count))
+        ∙ dividing-ends (q .base) (q .left / q .base) (suc (q .count)) h in
         value-stays M (a - (t + 1)) (t + 1) (Fits (q .count + 1)) ∙ logarithm-steps q (value (Fits (q .count + 1))) e
 
     pub logarithm-goes-on
         : (q : Logarithm) → q .base ≤ q .left / q .base →
-        goneOn M (a - (t + 1)) (t + 1) (within (InLogarithm (record { base = q .base; left = q .left / q .base; count = q .count + 1 })))
+        goneOn M (a - (t + 1)) (t + 1) (inLogarithm (q .base) (q .left / q .base) (q .count + 1))
         ≡ goneOn M (a - t) t (within (InLogarithm q))
     logarithm-goes-on q h =
-        let q' : ℕ → Outcome = λ n. within (InLogarithm (record { base = q .base; left = q .left / q .base; count = n })) in
-        let e = ap q' (add-one (q .count)) ∙ dividing-goes (q .base) (q .left / q .base) (suc (q .count)) h in
-        logarithm-steps q (q' (q .count + 1)) e
+        let e =
+        ap (inLogarithm (q .base) (q .left / q .base)) (add-one (q .count))
+        ∙ dividing-goes (q .base) (q .left / q .base) (suc (q .count)) h in
+        logarithm-steps q (inLogarithm (q .base) (q .left / q .base) (q .count + 1)) e

@@ -1,5 +1,5 @@
--- An operation from its first step on, as far as an allowance brings it: what it has come to, and after how many of the run's
--- steps.
+-- An operation from its first step on, as far as an allowance brings it: what it has come to, and after how many of
+-- the run's steps.
 -- Assumes nothing.
 use mathlib.Core.Path.{_≡_}
 use Prim.Native.Nat.{ℕ, zero, suc, _+_, _-_, _^_, _≤_, _<_}
@@ -34,8 +34,10 @@ unfoldable pub goneOn : ℕ → ℕ → ℕ → steps.Outcome → Reach
 goneOn M zero t o = reach o t
 goneOn M (suc k) t (steps.value v) = reach (steps.value v) t
 goneOn M (suc k) t (steps.within Between) = reach (steps.within Between) t
-goneOn M (suc k) t (steps.within (InPower p)) = goneOn M k (suc t) (steps.powerStep M (p .first) (p .second) (p .exponent))
-goneOn M (suc k) t (steps.within (InLogarithm q)) = goneOn M k (suc t) (steps.logarithmStep (q .base) (q .left) (q .count))
+goneOn M (suc k) t (steps.within (InPower p)) =
+    goneOn M k (suc t) (steps.powerStep M (p .first) (p .second) (p .exponent))
+goneOn M (suc k) t (steps.within (InLogarithm q)) =
+    goneOn M k (suc t) (steps.logarithmStep (q .base) (q .left) (q .count))
 goneOn M (suc k) t (steps.fails code) = reach (steps.fails code) t
 
 -- begun with the last of `from` steps, with an allowance of a

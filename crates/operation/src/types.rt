@@ -10,8 +10,8 @@ pub enum Outcome {
     Refused(Refusal),
 }
 
-// How far an allowance brings an operation, and after how many of the run's steps: to its value, to a phase where the allowance
-// is spent, or to its refusal, which comes with the operation's first step.
+// How far an allowance brings an operation, and after how many of the run's steps: to its value, to a phase where the
+// allowance is spent, or to its refusal, which comes with the operation's first step.
 pub enum Reached {
     Value(Checked64, u64),
     Within(Phase, u64),

@@ -41,8 +41,8 @@ pub(crate) fn dividing(base: u64, left: u64, count: u64) -> Outcome
     Outcome::Value(Checked64::Fits(count))
 }
 
-// A power's further steps. Each takes a binary digit of the exponent, from the last one up; the square after the first digit,
-// which nobody sees, is not worked out.
+// A power's further steps. Each takes a binary digit of the exponent, from the last one up; the square after the first
+// digit, which nobody sees, is not worked out.
 fn power_on(limit: u64, p: Power, from: u64, allowance: u64) -> Reached
     ensures { λ r. ⌜ reachOf from r ≡ goneOn limit (allowance - from) from (steps.within (InPower p)) ⌝ }
 {

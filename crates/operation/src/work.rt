@@ -7,7 +7,8 @@ ghost use mathlib.Core.Path.{_≡_};
 ghost use Rattle.shape.specs.Items.{kindOf};
 ghost use Rattle.operation.specs.Work.{reachOf, workOf};
 
-// An operation on these two operands, begun with the last of `from` steps of the run. What is no operation is refused with 8.
+// An operation on these two operands, begun with the last of `from` steps of the run. What is no operation is refused
+// with 8.
 pub fn work(
     limit: u64,
     kind: u8,

@@ -1,5 +1,5 @@
--- An operation that goes on: each of its further steps is one of the run, and so what is left of the allowance a leads from what it
--- reaches to where it led before.
+-- An operation that goes on: each of its further steps is one of the run, and so what is left of the allowance a leads
+-- from what it reaches to where it led before.
 -- Assumes nothing.
 use mathlib.Core.Path.{_≡_, refl, ap, sym, _∙_}
 use mathlib.Core.List.{List, _∷_}
@@ -18,7 +18,8 @@ use Rattle.recipe.specs.Machine.{rest, placed, placedAs, Kept}
 -- ---- a step
 
 pub landed-placed
-    : (t t' d : ℕ) (hand : List Value) (x : Item) (xs : List Item) (o : Outcome) → t' ≡ suc t → landed t d hand x xs o ≡ placed t' d hand x xs o
+    : (t t' d : ℕ) (hand : List Value) (x : Item) (xs : List Item) (o : Outcome) → t' ≡ suc t →
+    landed t d hand x xs o ≡ placed t' d hand x xs o
 landed-placed t t' d hand x xs (value v) e = ap (λ n. going n (suc d) (v ∷ hand) Between xs) (sym e)
 landed-placed t t' d hand x xs (within p) e = ap (λ n. going n d hand p (x ∷ xs)) (sym e)
 landed-placed t t' d hand x xs (fails code) e = ap (λ n. refused n d code) (sym e)
@@ -34,7 +35,8 @@ module _ (M a : ℕ) where
   -- a step that comes to o; an operation's operands leave the hand with it
   pub step-leads
       : (t d : ℕ) (hand hand' : List Value) (p : Phase) (x : Item) (xs : List Item) (o : Outcome) → t < a →
-      step M t d hand p x xs ≡ landed t d hand' x xs o → rest M a (going t d hand p (x ∷ xs)) ≡ rest M a (landed t d hand' x xs o)
+      step M t d hand p x xs ≡ landed t d hand' x xs o →
+      rest M a (going t d hand p (x ∷ xs)) ≡ rest M a (landed t d hand' x xs o)
   unfolding after
   step-leads t d hand hand' p x xs o h s =
       let e : a - t ≡ suc (a - suc t) = omega arith in
@@ -45,7 +47,8 @@ module _ (M a : ℕ) where
   -- it leads where it led, and keeps to the allowance
   abbrev pub GoesOn : ℕ → Outcome → Reach → Type 0
   GoesOn t o w =
-      ((d : ℕ) (hand : List Value) (x : Item) (xs : List Item) → rest M a (placed t d hand x xs o) ≡ rest M a (placedAs d hand x xs w))
+      ((d : ℕ) (hand : List Value) (x : Item) (xs : List Item) →
+      rest M a (placed t d hand x xs o) ≡ rest M a (placedAs d hand x xs w))
       × Kept a t (w .taken) (w .outcome)
 
   -- with one step more it was there before
@@ -60,7 +63,9 @@ module _ (M a : ℕ) where
       GoesOn (suc t) o w → GoesOn t (within p) w
   goes-further t p o w h s (leads, kept) = (
     λ d hand x xs.
-        step-leads t d hand hand p x xs o h (s d hand x xs) ∙ ap (rest M a) (landed-placed t (suc t) d hand x xs o refl) ∙ leads d hand x xs,
+        step-leads t d hand hand p x xs o h (s d hand x xs)
+        ∙ ap (rest M a) (landed-placed t (suc t) d hand x xs o refl)
+        ∙ leads d hand x xs,
     one-before t (w .taken) (w .outcome) kept,
   )
 
@@ -73,10 +78,12 @@ module _ (M a : ℕ) where
   goes-on (suc k) t (within Between) w e = absurd w
   goes-on (suc k) t (within (InPower p)) w e =
       let o = powerStep M (p .first) (p .second) (p .exponent) in
-      goes-further t (InPower p) o (goneOn M k (suc t) o) (omega arith) (λ d hand x xs. refl) (goes-on k (suc t) o (power-works M p) (omega arith))
+      let later = goes-on k (suc t) o (power-works M p) (omega arith) in
+      goes-further t (InPower p) o (goneOn M k (suc t) o) (omega arith) (λ d hand x xs. refl) later
   goes-on (suc k) t (within (InLogarithm q)) w e =
       let o = logarithmStep (q .base) (q .left) (q .count) in
-      goes-further t (InLogarithm q) o (goneOn M k (suc t) o) (omega arith) (λ d hand x xs. refl) (goes-on k (suc t) o (logarithm-works q) (omega arith))
+      let later = goes-on k (suc t) o (logarithm-works q) (omega arith) in
+      goes-further t (InLogarithm q) o (goneOn M k (suc t) o) (omega arith) (λ d hand x xs. refl) later
   goes-on (suc k) t (fails code) w e = (λ d hand x xs. refl, tt)
 
 -- what a kind begins with is never a phase between items

@@ -1,5 +1,5 @@
--- How the code's parts stand for the parts of a run: its hand of numbers and marks, its state. Only contracts of private
--- functions speak of this; what a caller is promised is in `Run`.
+-- How the code's parts stand for the parts of a run: its hand of numbers and marks, its state. Only contracts of
+-- private functions speak of this; what a caller is promised is in `Run`.
 -- Assumes nothing.
 use mathlib.Core.Path.{_≡_}
 use mathlib.Core.Bool.{cond}
@@ -87,14 +87,21 @@ pub record Lands (held : ℕ) (hand marks hand' marks' : List ℕ) (o : Reached)
   pub lands
       : (from d : ℕ) (zs : List Item) (x : Item) → drop d zs ≡ x ∷ drop (suc d) zs →
       advancedOf from d zs hand' marks' r ≡ reachedOf from d (handOf held hand marks) x (drop (suc d) zs) o
-  pub ready : (M a from d : ℕ) (zs : List Item) → Keeps a from o → Good M (suc held) (drop (suc d) zs) → Ready M a from d zs hand' marks' r
+  pub ready
+      : (M a from d : ℕ) (zs : List Item) → Keeps a from o → Good M (suc held) (drop (suc d) zs) →
+      Ready M a from d zs hand' marks' r
 
 -- an operation of the kind is begun with the last of `from` steps
-pub record Operates (M a from : ℕ) (k : Kind) (held : ℕ) (hand marks hand' marks' : List ℕ) (r : Advanced) : Type 0 where
-  pub leads
-      : (t d : ℕ) (zs : List Item) (x : Item) (p : Operation) → from ≡ suc t → drop d zs ≡ x ∷ drop (suc d) zs → k ≡ operation p →
-      rest M a (steps.operating M t d (handOf held hand marks) p x (drop (suc d) zs)) ≡ rest M a (advancedOf from d zs hand' marks' r)
-  pub ready : (d : ℕ) (zs : List Item) → Good M (held - 1) (drop (suc d) zs) → Ready M a from d zs hand' marks' r
+pub record Operates
+    (M a from : ℕ) (k : Kind) (held : ℕ) (hand marks hand' marks' : List ℕ) (r : Advanced)
+    : Type 0
+  where
+    pub leads
+        : (t d : ℕ) (zs : List Item) (x : Item) (p : Operation) → from ≡ suc t → drop d zs ≡ x ∷ drop (suc d) zs →
+        k ≡ operation p →
+        rest M a (steps.operating M t d (handOf held hand marks) p x (drop (suc d) zs))
+        ≡ rest M a (advancedOf from d zs hand' marks' r)
+    pub ready : (d : ℕ) (zs : List Item) → Good M (held - 1) (drop (suc d) zs) → Ready M a from d zs hand' marks' r
 
 -- item d comes next, and the last of `from` steps is there to begin it
 pub record AtItem (M a from : ℕ) (ks ns : List ℕ) (held d : ℕ) (hand marks : List ℕ) : Type 0 where
@@ -105,11 +112,15 @@ pub record AtItem (M a from : ℕ) (ks ns : List ℕ) (held d : ℕ) (hand marks
   pub good : Good M held (drop d (items ks ns))
 
 -- item d is begun with the last of `from` steps
-pub record Advances (M a from : ℕ) (zs : List Item) (held d : ℕ) (hand marks hand' marks' : List ℕ) (r : Advanced) : Type 0 where
-  pub leads
-      : (t : ℕ) → from ≡ suc t →
-      rest M a (steps.going t d (handOf held hand marks) Between (drop d zs)) ≡ rest M a (advancedOf from d zs hand' marks' r)
-  pub ready : Ready M a from d zs hand' marks' r
+pub record Advances
+    (M a from : ℕ) (zs : List Item) (held d : ℕ) (hand marks hand' marks' : List ℕ) (r : Advanced)
+    : Type 0
+  where
+    pub leads
+        : (t : ℕ) → from ≡ suc t →
+        rest M a (steps.going t d (handOf held hand marks) Between (drop d zs))
+        ≡ rest M a (advancedOf from d zs hand' marks' r)
+    pub ready : Ready M a from d zs hand' marks' r
 
 -- ---- the end
 

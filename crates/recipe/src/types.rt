@@ -26,8 +26,8 @@ pub struct State {
     pub phase: Phase,
 }
 
-// How far an allowance brings an item, in the run's state, and after how many of its steps: how many values are on hand, with the
-// item's own where it is done. A refusal comes with the item's first step.
+// How far an allowance brings an item, in the run's state, and after how many of its steps: how many values are on
+// hand, with the item's own where it is done. A refusal comes with the item's first step.
 pub enum Advanced {
     Done(usize, u64),
     Within(usize, Phase, u64),

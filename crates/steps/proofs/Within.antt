@@ -10,7 +10,8 @@ use Rattle.meaning.specs.Meaning.{refusal}
 use Rattle.steps.specs.declared.types.Power.{Power}
 use Rattle.steps.specs.declared.types.Logarithm.{Logarithm}
 use Rattle.steps.specs.declared.types.Phase.the-variants.{Between, InPower, InLogarithm}
-use Rattle.steps.specs.Steps.{Outcome, value, within, fails, powering, powerStep, dividing, logarithmStep, fitting, entered, begun}
+use Rattle.steps.specs.Steps.{Outcome, value, within, fails, powering, powerStep, dividing, logarithmStep}
+use Rattle.steps.specs.Steps.{fitting, entered, begun}
 
 abbrev pub Working : Outcome → Type 0
 Working (value v) = Unit {0}
@@ -24,18 +25,24 @@ Working (fails code) = Unit {0}
 powering-works : (first second : Value) (e : ℕ) → Working (powering first second e)
 powering-works first second e = by-test (eqb e 0)
   where
-    by-test : (b : Bool) → Working (cond b (value first) (within (InPower (record { first = first; second = second; exponent = e }))))
+    by-test
+        : (b : Bool) →
+        Working (cond b (value first) (within (InPower (record { first = first; second = second; exponent = e }))))
     by-test true = tt
     by-test false = tt
 
 pub power-works : (M : ℕ) (p : Power) → Working (powerStep M (p .first) (p .second) (p .exponent))
 power-works M p =
-    powering-works (cond (eqb (p .exponent % 2) 1) (productOf M (p .first) (p .second)) (p .first)) (productOf M (p .second) (p .second)) (p .exponent / 2)
+    powering-works (cond (eqb (p .exponent % 2) 1) (productOf M (p .first) (p .second)) (p .first))
+    (productOf M (p .second) (p .second)) (p .exponent / 2)
 
 dividing-works : (base left count : ℕ) → Working (dividing base left count)
 dividing-works base left count = by-test (leb base left)
   where
-    by-test : (b : Bool) → Working (cond b (within (InLogarithm (record { base = base; left = left; count = count }))) (value (Fits count)))
+    by-test
+        : (b : Bool) →
+        Working
+        (cond b (within (InLogarithm (record { base = base; left = left; count = count }))) (value (Fits count)))
     by-test true = tt
     by-test false = tt
 

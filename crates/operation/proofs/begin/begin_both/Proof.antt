@@ -23,13 +23,15 @@ returns c =
     let g = c .before .before .before .before .before .args in
     let v = c .before .before .l .given in
     let b = c .begin-fitting .ensures in
-    (fitting-begins (g .limit) (g .left) (g .right) (g .kind) (v .0 .0) (v .0 .1 .0) (sym (c .before .before .before .before .both .ensures) ∙ v .1) (b .0), b .1)
+    let fit = sym (c .before .before .before .before .both .ensures) ∙ v .1 in
+    (fitting-begins (g .limit) (g .left) (g .right) (g .kind) (v .0 .0) (v .0 .1 .0) fit (b .0), b .1)
 
 returns-2 : tie.Need-returns-2
 returns-2 c =
     let s = c .before .before .before in
     let g = s .args in
-    (overflowed-begins (g .limit) (g .left) (g .right) (g .kind) (s .pre .0) (s .pre .1) (sym (c .before .before .both .ensures) ∙ c .enum-told .given .1), tt)
+    let overflowed = sym (c .before .before .both .ensures) ∙ c .enum-told .given .1 in
+    (overflowed-begins (g .limit) (g .left) (g .right) (g .kind) (s .pre .0) (s .pre .1) overflowed, tt)
 
 pub begin-both-spec : {M : Type 1} → statement M
 begin-both-spec =

@@ -1,9 +1,9 @@
 -- `within::go_on` meets its contract.
 -- Assumes nothing.
-use mathlib.Core.Path.{_∙_, ap, sym, subst}
+use mathlib.Core.Path.{_≡_, _∙_, ap, sym, subst}
 use Prim.Native.Nat.{_-_}
 use Rattle.checked.specs.Paper.{numberOf}
-use Rattle.operation.specs.Work.{outcome, SoundOutcome, goneOn}
+use Rattle.operation.specs.Work.{outcome, SoundOutcome, goneOn, reachOf}
 use Rattle.operation.proofs.Going.{value-stays, refusal-stays}
 use borrow.Author.Needs.{needs}
 use Rattle.operation.proofs.within.go_on.Statement.{statement}
@@ -31,8 +31,9 @@ returns c =
 returns-2 : tie.Need-returns-2
 returns-2 c =
     let g = c .before .before .before .before .args in
-    c .phase-on .ensures
-    ∙ ap (λ o. goneOn (g .limit) (g .allowance - g .from) (g .from) (outcome o)) (sym (c .before .before .o2 .given .1))
+    let left = g .allowance - g .from in
+    subst (λ o. reachOf (g .from) (c .phase-on .result) ≡ goneOn (g .limit) left (g .from) (outcome o))
+    (sym (c .before .before .o2 .given .1)) (c .phase-on .ensures)
 
 returns-3 : tie.Need-returns-3
 returns-3 c =

@@ -8,7 +8,7 @@ use Rattle.steps.specs.declared.types.Phase.the-variants.{InLogarithm}
 use Rattle.steps.specs.Steps.{within}
 use Rattle.operation.specs.Work.{Sound, goneOn}
 use Rattle.operation.proofs.Going.{stops, logarithm-value, logarithm-goes-on}
-use Rattle.operation.proofs.Outcomes.{sound-step}
+use Rattle.operation.proofs.Outcomes.{inLogarithm, sound-step}
 use Rattle.operation.proofs.within.logarithm_on.Statement.{statement}
 use Rattle.operation.proofs.within.logarithm_on.Tie as tie
 
@@ -17,8 +17,8 @@ abbrev Inv-loop : tie.InvT-loop
 Inv-loop from allowance base left₀ count₀ taken₀ left count taken =
     Sound (InLogarithm (record { base = base; left = left; count = count }))
     × ((M : ℕ) →
-    goneOn M (allowance - taken) taken (within (InLogarithm (record { base = base; left = left; count = count })))
-    ≡ goneOn M (allowance - from) from (within (InLogarithm (record { base = base; left = left₀; count = count₀ }))))
+    goneOn M (allowance - taken) taken (inLogarithm base left count)
+    ≡ goneOn M (allowance - from) from (inLogarithm base left₀ count₀))
 
 abbrev μ-loop : tie.MeasureT-loop
 μ-loop from allowance base left₀ count₀ taken₀ left count taken = allowance - taken

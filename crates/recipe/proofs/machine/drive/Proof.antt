@@ -2,7 +2,8 @@
 -- Assumes nothing.
 use native.Mathlib.Omega.{arith}
 use Prim.Native.Nat.{_-_}
-use Rattle.recipe.proofs.Driving.{Drives, Turned, begins-driving, between-shown, turn, refused-shown, within-shown, more-taken, drives-on, finished-shown}
+use Rattle.recipe.proofs.Driving.{Drives, begins-driving, between-shown, Turned, turn}
+use Rattle.recipe.proofs.Driving.{refused-shown, within-shown, more-taken, drives-on, finished-shown}
 use borrow.Author.Needs.{needs}
 use Rattle.recipe.proofs.machine.drive.Statement.{statement}
 use Rattle.recipe.proofs.machine.drive.Tie as tie
@@ -23,15 +24,24 @@ module _ (c : tie.After-advance Inv-loop μ-loop) where
   start = head .before .before .before
 
   turned
-      : Turned (start .args .limit) (start .args .kinds .now) (start .args .numbers .now) (start .args .allowance) (head .loop .done) (head .loop .taken)
-      (c .advance .last .1 .1 .1 .0) (c .advance .last .1 .1 .1 .1 .0) (c .advance .result)
+      : Turned
+      (start .args .limit)
+      (start .args .kinds .now)
+      (start .args .numbers .now)
+      (start .args .allowance)
+      (head .loop .done)
+      (head .loop .taken)
+      (c .advance .last .1 .1 .1 .0)
+      (c .advance .last .1 .1 .1 .1 .0)
+      (c .advance .result)
   turned = turn (start .pre .0 .0) (head .loop .inv) (c .advance .ensures)
 
 loop-holds : tie.Need-loop-holds Inv-loop μ-loop
 loop-holds c =
     let s = c .before .before in
     let g = s .args in
-    begins-driving (g .limit) (g .kinds .now) (g .numbers .now) (g .allowance) (g .hand .now) (g .marks .now) (s .pre .0 .2) (s .pre .1 .0) (s .pre .1 .1)
+    begins-driving (g .limit) (g .kinds .now) (g .numbers .now) (g .allowance) (g .hand .now) (g .marks .now)
+    (s .pre .0 .2) (s .pre .1 .0) (s .pre .1 .1)
 
 add-advance : tie.Need-add-advance Inv-loop μ-loop
 add-advance c = search needs
@@ -60,8 +70,9 @@ value-of-requires c κs = search needs
 
 returns : tie.Need-returns Inv-loop μ-loop
 returns c =
-    let v = c .before .before .before .before .before .now-held .given in
-    finished-shown (turned (c .before .before .before .before .before .before .before)) (v .1) (c .before .before .before .if1 .taken) (c .value-of .ensures)
+    let d = c .before .before .before in
+    finished-shown (turned (d .before .before .before .before)) (d .before .before .now-held .given .1) (d .if1 .taken)
+    (c .value-of .ensures)
 
 loop-less : tie.Need-loop-less Inv-loop μ-loop
 loop-less c =
@@ -70,7 +81,8 @@ loop-less c =
     omega arith
 
 loop-again : tie.Need-loop-again Inv-loop μ-loop
-loop-again c = drives-on (turned (c .before .before .before .before)) (c .before .before .now-held .given .1) (c .if1 .left)
+loop-again c =
+    drives-on (turned (c .before .before .before .before)) (c .before .before .now-held .given .1) (c .if1 .left)
 
 enum-known-phase : tie.Need-enum-known-phase Inv-loop μ-loop
 enum-known-phase c = search needs

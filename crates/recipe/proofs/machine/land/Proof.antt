@@ -30,7 +30,8 @@ returns c =
     let s = c .before .before .before .before .before .before in
     let g = s .args in
     let v = c .before .before .before .before .reached .given in
-    value-lands (g .held) (g .hand .now) (g .marks .now) (s .pre .0) (s .pre .1) (c .put .ensures .0) (c .put .ensures .1) (v .1)
+    let p = c .put .ensures in
+    value-lands (g .held) (g .hand .now) (g .marks .now) (s .pre .0) (s .pre .1) (p .0) (p .1) (v .1)
 
 returns-2 : tie.Need-returns-2
 returns-2 c =
