@@ -1,5 +1,6 @@
 -- The laws on checked values, each file standing on those above it. `Promises` states what the functions promise.
 pub mod Arms
+pub mod BothFit
 pub mod Limit
 pub mod Squares
 pub mod Powers

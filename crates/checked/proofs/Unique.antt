@@ -29,7 +29,12 @@ one f back inverse x y e = sym (inverse x) ∙ ap back e ∙ inverse y
 -- every refusal, in any order
 refusals : List Refusal
 refusals =
-    refusal.DivisorZero ∷ refusal.BaseBelowTwo ∷ refusal.Overflowed ∷ refusal.QuotientTooLarge ∷ refusal.UnknownWidth ∷ refusal.LengthsDiffer ∷ refusal.ItemCount ∷ refusal.UnknownKind ∷ refusal.LiteralTooLarge ∷ refusal.TooFewOnHand ∷ refusal.HandFull ∷ refusal.SeveralLeft ∷ refusal.NoneLeft ∷ refusal.FieldEmpty ∷ refusal.BadMark ∷ refusal.BlockLength ∷ refusal.WrongCheck ∷ refusal.BadLayout ∷ refusal.ListTooShort ∷ refusal.AllowanceSpent ∷ refusal.BlockNumberTooLarge ∷ refusal.UnusableReading ∷ refusal.NotWhole ∷ refusal.OtherBlockNumber ∷ []
+    refusal.DivisorZero ∷ refusal.BaseBelowTwo ∷ refusal.Overflowed ∷ refusal.QuotientTooLarge ∷
+    refusal.UnknownWidth ∷ refusal.LengthsDiffer ∷ refusal.ItemCount ∷ refusal.UnknownKind ∷
+    refusal.LiteralTooLarge ∷ refusal.TooFewOnHand ∷ refusal.HandFull ∷ refusal.SeveralLeft ∷
+    refusal.NoneLeft ∷ refusal.FieldEmpty ∷ refusal.BadMark ∷ refusal.BlockLength ∷ refusal.WrongCheck ∷
+    refusal.BadLayout ∷ refusal.ListTooShort ∷ refusal.AllowanceSpent ∷ refusal.BlockNumberTooLarge ∷
+    refusal.UnusableReading ∷ refusal.NotWhole ∷ refusal.OtherBlockNumber ∷ []
 
 -- the first of a list's refusals with the number n
 firstWith : ℕ → List Refusal → Refusal

@@ -1,7 +1,7 @@
 -- What an operation answers, in numbers: the refusal's number and place, or 0 and 0 with the value's mark and number.
 -- Assumes nothing.
 use mathlib.Core.Bool.{cond}
-use Prim.Native.Nat.{ℕ, _/_, _%_, _^_}
+use Prim.Native.Nat.{ℕ, _+_, _*_, _/_, _%_, _^_}
 use lib.Dec.{eqb, ltb}
 use Rattle.whole.specs.logarithm.{log-of}
 use Rattle.checked.specs.declared.refusal.Refusal.{Refusal}
@@ -64,6 +64,12 @@ plain (plain64.Number n) = given (Fits n)
 plain (plain64.Refused r) = refused (numberOf r)
 
 -- ---- on numbers
+
+abbrev pub sumsOf : ℕ → ℕ → ℕ → Paper
+sumsOf M l r = given (checkedOf M (l + r))
+
+abbrev pub productsOf : ℕ → ℕ → ℕ → Paper
+productsOf M l r = given (checkedOf M (l * r))
 
 abbrev pub dividedBy : ℕ → ℕ → Paper
 dividedBy l r = cond (eqb r 0) (refused 1) (given (Fits (l / r)))

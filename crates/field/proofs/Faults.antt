@@ -1,65 +1,72 @@
--- A place's fault by its mark and its number: one of 0, 3 and 15.
+-- A place's faults by its mark and its number: by the mark alone 0 or 15, in a scan 0, 3 or 15.
 -- Assumes nothing.
 use mathlib.Core.Path.{_≡_}
+use mathlib.Core.Logic.{inl, inr, ⊎-elim}
 use Prim.Native.Nat.{ℕ}
 use native.Mathlib.Decide.{ℕ-discrete}
 use native.Mathlib.Omega.{arith}
 use borrow.Author.Tests.{eq-eqb, ne-eqb}
-use Rattle.field.specs.Field.{faultOf}
+use Rattle.field.specs.Field.{markFault, faultOf, BadMark}
 
 module _ (mark number : ℕ) where
   -- ---- by what the place holds
 
-  pub unmarked-fits : mark ≡ 0 → faultOf mark number ≡ 0
-  unfolding faultOf
-  unmarked-fits z = simp (eq-eqb mark 0 z)
+  pub unmarked-faults : mark ≡ 0 → (markFault mark number ≡ 0) × (faultOf mark number ≡ 0)
+  unfolding faultOf markFault
+  unmarked-faults z = let m = eq-eqb mark 0 z in (simp m, simp m)
 
-  pub overflowed-fault : mark ≡ 1 → number ≡ 0 → faultOf mark number ≡ 3
-  unfolding faultOf
-  overflowed-fault e z = simp (ne-eqb mark 0 (λ o. omega arith), eq-eqb mark 1 e, eq-eqb number 0 z)
+  pub overflowed-faults : mark ≡ 1 → number ≡ 0 → (markFault mark number ≡ 0) × (faultOf mark number ≡ 3)
+  unfolding faultOf markFault
+  overflowed-faults e z =
+      let m = ne-eqb mark 0 (λ o. omega arith) in
+      let o = eq-eqb mark 1 e in
+      let n = eq-eqb number 0 z in (simp (m, o, n), simp (m, o, n))
 
-  pub bad-fault : (mark ≡ 0 → ⊥) → (mark ≡ 1 → number ≡ 0 → ⊥) → faultOf mark number ≡ 15
-  unfolding faultOf
-  bad-fault m n =
-      elim (ℕ-discrete mark 1) [
-        | yes e ↦ simp (ne-eqb mark 0 m, eq-eqb mark 1 e, ne-eqb number 0 (n e))
-        | no o ↦ simp (ne-eqb mark 0 m, ne-eqb mark 1 o)
+  pub bad-faults : BadMark mark number → (markFault mark number ≡ 15) × (faultOf mark number ≡ 15)
+  unfolding faultOf markFault
+  bad-faults =
+      ⊎-elim
+      (λ p. let m = ne-eqb mark 0 (p .0) in let o = ne-eqb mark 1 (p .1) in (simp (m, o), simp (m, o)))
+      (λ p.
+      let e = p .0 in
+      let m = ne-eqb mark 0 (λ o. omega arith) in
+      let o = eq-eqb mark 1 e in
+      let n = ne-eqb number 0 (p .1) in (simp (m, o, n), simp (m, o, n)))
+
+  -- ---- the three cases, each with both faults
+
+  pub data Standing : Type 0 where
+    fits : mark ≡ 0 → markFault mark number ≡ 0 → faultOf mark number ≡ 0 → Standing
+    overflowed : mark ≡ 1 → number ≡ 0 → markFault mark number ≡ 0 → faultOf mark number ≡ 3 → Standing
+    bad : BadMark mark number → markFault mark number ≡ 15 → faultOf mark number ≡ 15 → Standing
+
+  pub standing : Standing
+  standing =
+      elim (ℕ-discrete mark 0) [
+        | yes z ↦ let f = unmarked-faults z in fits z (f .0) (f .1)
+        | no m ↦
+            elim (ℕ-discrete mark 1) [
+              | no o ↦ is-bad (inl (m, o))
+              | yes e ↦
+                  elim (ℕ-discrete number 0) [
+                    | yes z ↦ let f = overflowed-faults e z in overflowed e z (f .0) (f .1)
+                    | no n ↦ is-bad (inr (e, n))
+                  ]
+            ]
       ]
+    where
+      is-bad : BadMark mark number → Standing
+      is-bad b = let f = bad-faults b in bad b (f .0) (f .1)
 
--- ---- the three cases
+  -- ---- what is no place's fault in a scan
 
-pub data Standing (mark number : ℕ) : Type 0 where
-  fits : mark ≡ 0 → faultOf mark number ≡ 0 → Standing mark number
-  overflowed : mark ≡ 1 → number ≡ 0 → faultOf mark number ≡ 3 → Standing mark number
-  bad : (mark ≡ 0 → ⊥) → (mark ≡ 1 → number ≡ 0 → ⊥) → faultOf mark number ≡ 15 → Standing mark number
+  -- a marked place has a fault
+  pub marked-faulty : (mark ≡ 0 → ⊥) → faultOf mark number ≡ 0 → ⊥
+  marked-faulty m z = elim standing [ fits e g f ↦ m e | overflowed e n g f ↦ omega arith | bad b g f ↦ omega arith ]
 
-pub standing : (mark number : ℕ) → Standing mark number
-standing mark number =
-    elim (ℕ-discrete mark 0) [
-      | yes z ↦ fits z (unmarked-fits mark number z)
-      | no m ↦
-          elim (ℕ-discrete mark 1) [
-            | yes e ↦
-                elim (ℕ-discrete number 0) [
-                  | yes z ↦ overflowed e z (overflowed-fault mark number e z)
-                  | no n ↦ bad m (λ o. n) (bad-fault mark number m (λ o. n))
-                ]
-            | no o ↦ bad m (λ e. absurd (o e)) (bad-fault mark number m (λ e. absurd (o e)))
-          ]
-    ]
+  -- 6 and 14 are no place's
+  pub fault-not-6 : faultOf mark number ≡ 6 → ⊥
+  fault-not-6 e = elim standing [ fits z g f ↦ omega arith | overflowed m z g f ↦ omega arith | bad b g f ↦ omega arith ]
 
--- a marked place has a fault
-pub marked-faulty : (mark number : ℕ) → (mark ≡ 0 → ⊥) → faultOf mark number ≡ 0 → ⊥
-marked-faulty mark number m z =
-    elim (standing mark number) [
-      | fits e f ↦ m e
-      | overflowed e n f ↦ omega arith
-      | bad a b f ↦ omega arith
-    ]
-
--- 6 and 14 are no place's
-pub fault-not-6 : (mark number : ℕ) → faultOf mark number ≡ 6 → ⊥
-fault-not-6 mark number e = elim (standing mark number) [ fits z f ↦ omega arith | overflowed m z f ↦ omega arith | bad m z f ↦ omega arith ]
-
-pub fault-not-14 : (mark number : ℕ) → faultOf mark number ≡ 14 → ⊥
-fault-not-14 mark number e = elim (standing mark number) [ fits z f ↦ omega arith | overflowed m z f ↦ omega arith | bad m z f ↦ omega arith ]
+  pub fault-not-14 : faultOf mark number ≡ 14 → ⊥
+  fault-not-14 e = elim standing [ fits z g f ↦ omega arith | overflowed m z g f ↦ omega arith | bad b g f ↦ omega arith ]

@@ -10,62 +10,83 @@ use native.Mathlib.Decide.{ℕ-discrete}
 use native.Mathlib.Omega.{arith}
 use lib.ListN.{length, getD}
 use Rattle.whole.specs.logarithm.{log-of}
-use Rattle.field.specs.Field.{faultOf, NoFaultBefore, EndsAt}
+use Rattle.places.specs.Faults.{NoFaultBefore}
+use Rattle.field.specs.Field.{markFault, faultOf, faultAt, BadMark, EndsAt}
 use Rattle.field.specs.Range.{Holds, packingWidth, refused, rangeOf, scanOf}
-use Rattle.field.proofs.Faults.{fits, overflowed, bad, standing, unmarked-fits, overflowed-fault, bad-fault, marked-faulty, fault-not-6, fault-not-14}
+use Rattle.field.proofs.Faults.{fits, overflowed, bad, standing, unmarked-faults, overflowed-faults, bad-faults, fault-not-6, fault-not-14}
 use Rattle.field.proofs.Ranges.{least-bound, greatest-bound, least-held, greatest-held}
 use Rattle.field.proofs.Widths.{width-bound, width-least}
-use Rattle.field.proofs.Scans.{unequal, empty, ended, whole, stage, at-unequal, at-empty, at-places, at-fault, at-range, first-at, first-nowhere}
+use Rattle.field.proofs.Scans.{unequal, empty, ended, whole, stage, at-unequal, at-empty, at-range, at-fault-exactly}
 
 -- ---- a place's fault, by its mark and its number
 
 module _ (mark number : ℕ) where
-  -- none exactly when the mark is 0
-  pub fault-0-exactly : (faultOf mark number ≡ 0) ↔ (mark ≡ 0)
-  fault-0-exactly = (only, unmarked-fits mark number)
+  -- by the mark alone, none exactly when the mark is 0, or 1 with the number 0
+  pub mark-fault-0-exactly : (markFault mark number ≡ 0) ↔ ((mark ≡ 0) ⊎ ((mark ≡ 1) × (number ≡ 0)))
+  mark-fault-0-exactly =
+      (only, ⊎-elim (λ z. unmarked-faults mark number z .0) (λ p. overflowed-faults mark number (p .0) (p .1) .0))
     where
-      only : faultOf mark number ≡ 0 → mark ≡ 0
-      only z = elim (ℕ-discrete mark 0) [ yes e ↦ e | no n ↦ absurd (marked-faulty mark number n z) ]
-
-  -- 15 exactly when the mark is neither 0 nor 1, or it is 1 and the number isn't 0
-  pub fault-15-exactly : (faultOf mark number ≡ 15) ↔ (((mark ≡ 0 → ⊥) × (mark ≡ 1 → ⊥)) ⊎ ((mark ≡ 1) × (number ≡ 0 → ⊥)))
-  fault-15-exactly = (
-    only,
-    ⊎-elim
-        (λ p. bad-fault mark number (p .0) (λ e z. p .1 e))
-        (λ p. let e = p .0 in bad-fault mark number (λ z. omega arith) (λ o z. p .1 z)),
-  )
-    where
-      only : faultOf mark number ≡ 15 → ((mark ≡ 0 → ⊥) × (mark ≡ 1 → ⊥)) ⊎ ((mark ≡ 1) × (number ≡ 0 → ⊥))
+      only : markFault mark number ≡ 0 → (mark ≡ 0) ⊎ ((mark ≡ 1) × (number ≡ 0))
       only f =
           elim (standing mark number) [
-            | fits z g ↦ let a : ⊥ = omega arith in absurd a
-            | overflowed e z g ↦ let a : ⊥ = omega arith in absurd a
-            | bad m n g ↦ elim (ℕ-discrete mark 1) [ yes e ↦ inr (e, n e) | no o ↦ inl (m, o) ]
+            | fits z g h ↦ inl z
+            | overflowed e z g h ↦ inr (e, z)
+            | bad b g h ↦ let a : ⊥ = omega arith in absurd a
+          ]
+
+  -- and 15 exactly when the mark is neither 0 nor 1, or it is 1 and the number isn't 0
+  pub mark-fault-15-exactly : (markFault mark number ≡ 15) ↔ BadMark mark number
+  mark-fault-15-exactly = (only, λ b. bad-faults mark number b .0)
+    where
+      only : markFault mark number ≡ 15 → BadMark mark number
+      only f =
+          elim (standing mark number) [
+            | fits z g h ↦ let a : ⊥ = omega arith in absurd a
+            | overflowed e z g h ↦ let a : ⊥ = omega arith in absurd a
+            | bad b g h ↦ b
+          ]
+
+  -- in a scan, none exactly when the mark is 0
+  pub fault-0-exactly : (faultOf mark number ≡ 0) ↔ (mark ≡ 0)
+  fault-0-exactly = (only, λ z. unmarked-faults mark number z .1)
+    where
+      only : faultOf mark number ≡ 0 → mark ≡ 0
+      only f = elim (standing mark number) [ fits z g h ↦ z | overflowed e z g h ↦ omega arith | bad b g h ↦ omega arith ]
+
+  -- 15 exactly when the mark is neither 0 nor 1, or it is 1 and the number isn't 0
+  pub fault-15-exactly : (faultOf mark number ≡ 15) ↔ BadMark mark number
+  fault-15-exactly = (only, λ b. bad-faults mark number b .1)
+    where
+      only : faultOf mark number ≡ 15 → BadMark mark number
+      only f =
+          elim (standing mark number) [
+            | fits z g h ↦ let a : ⊥ = omega arith in absurd a
+            | overflowed e z g h ↦ let a : ⊥ = omega arith in absurd a
+            | bad b g h ↦ b
           ]
 
   -- 3 exactly when the mark is 1 and the number is 0
   pub fault-3-exactly : (faultOf mark number ≡ 3) ↔ ((mark ≡ 1) × (number ≡ 0))
-  fault-3-exactly = (only, λ p. overflowed-fault mark number (p .0) (p .1))
+  fault-3-exactly = (only, λ p. overflowed-faults mark number (p .0) (p .1) .1)
     where
       only : faultOf mark number ≡ 3 → (mark ≡ 1) × (number ≡ 0)
       only f =
           elim (standing mark number) [
-            | fits z g ↦ let a : ⊥ = omega arith in absurd a
-            | overflowed e z g ↦ (e, z)
-            | bad m n g ↦ let a : ⊥ = omega arith in absurd a
+            | fits z g h ↦ let a : ⊥ = omega arith in absurd a
+            | overflowed e z g h ↦ (e, z)
+            | bad b g h ↦ let a : ⊥ = omega arith in absurd a
           ]
 
 module _ (numbers marks : List ℕ) where
   -- ---- the range
 
   -- where the code is 0, every place was looked at and the answer is the range
-  ranged-whole : scanOf numbers marks .code ≡ 0 → (length numbers ≡ length marks) × (0 < length numbers) × NoFaultBefore numbers marks (length numbers) × (scanOf numbers marks ≡ rangeOf numbers)
+  ranged-whole : scanOf numbers marks .code ≡ 0 → (length numbers ≡ length marks) × (0 < length numbers) × NoFaultBefore (faultAt numbers marks) (length numbers) × (scanOf numbers marks ≡ rangeOf numbers)
   ranged-whole z =
       elim (stage numbers marks) [
         | unequal n s ↦ let f : ⊥ = omega (arith, ap (λ s. s .code) s) in absurd f
         | empty e o s ↦ let f : ⊥ = omega (arith, ap (λ s. s .code) s) in absurd f
-        | ended e i h n b s ↦ absurd (n (sym (ap (λ s. s .code) s) ∙ z))
+        | ended e i n f s ↦ absurd (n (sym (ap (λ s. s .code) s) ∙ z))
         | whole e h b s ↦ (e, h, b, s)
       ]
 
@@ -80,8 +101,7 @@ module _ (numbers marks : List ℕ) where
 
       given : (length numbers ≡ length marks) × (0 < length numbers) × ((i : ℕ) → i < length numbers → getD marks i 0 ≡ 0) → scanOf numbers marks .code ≡ 0
       given (e, h, a) =
-          let b = first-nowhere numbers marks (λ i k. unmarked-fits (getD marks i 0) (getD numbers i 0) (a i k)) in
-          ap (λ s. s .code) (at-places numbers marks e (λ z. omega arith) ∙ at-range numbers marks b)
+          ap (λ s. s .code) (at-range numbers marks e (λ z. omega arith) (λ i k. fault-0-exactly (getD marks i 0) (getD numbers i 0) .1 (a i k)))
 
   module _ (ranged : scanOf numbers marks .code ≡ 0) where
     -- the least is among the numbers, and at most each of them
@@ -130,7 +150,7 @@ module _ (numbers marks : List ℕ) where
           elim (stage numbers marks) [
             | unequal n s ↦ n q
             | empty e o s ↦ omega (arith, ap (λ s. s .code) s)
-            | ended e i h n b s ↦ fault-not-6 (getD marks i 0) (getD numbers i 0) (sym (ap (λ s. s .code) s) ∙ c)
+            | ended e i n f s ↦ fault-not-6 (getD marks i 0) (getD numbers i 0) (sym (ap (λ s. s .code) s) ∙ c)
             | whole e h b s ↦ omega (arith, ap (λ s. s .code) s)
           ]
 
@@ -144,7 +164,7 @@ module _ (numbers marks : List ℕ) where
           elim (stage numbers marks) [
             | unequal n s ↦ let f : ⊥ = omega (arith, ap (λ s. s .code) s) in absurd f
             | empty e o s ↦ (e, o)
-            | ended e i h n b s ↦ absurd (fault-not-14 (getD marks i 0) (getD numbers i 0) (sym (ap (λ s. s .code) s) ∙ c))
+            | ended e i n f s ↦ absurd (fault-not-14 (getD marks i 0) (getD numbers i 0) (sym (ap (λ s. s .code) s) ∙ c))
             | whole e h b s ↦ let f : ⊥ = omega (arith, ap (λ s. s .code) s) in absurd f
           ]
 
@@ -165,17 +185,14 @@ module _ (numbers marks : List ℕ) where
       not-14 z = ⊎-elim (λ e. omega arith) (λ e. omega arith) o
 
       given : (length numbers ≡ length marks) × EndsAt numbers marks c i → scanOf numbers marks ≡ refused c i
-      given (e, (h, f, b)) =
-          at-places numbers marks e (λ z. omega arith) ∙ at-fault numbers marks i (first-at numbers marks i h (λ z. not-0 (sym f ∙ z)) b) h ∙ ap (λ c. refused c i) f
+      given (e, f) = at-fault-exactly numbers marks e (λ z. omega (arith, f .0)) c i not-0 .1 f
 
       only : scanOf numbers marks ≡ refused c i → (length numbers ≡ length marks) × EndsAt numbers marks c i
       only r =
           elim (stage numbers marks) [
             | unequal n s ↦ absurd (not-6 (ap (λ s. s .code) (sym s ∙ r)))
             | empty e z s ↦ absurd (not-14 (ap (λ s. s .code) (sym s ∙ r)))
-            | ended e j h n b s ↦
-                let p = ap (λ s. s .code) (sym s ∙ r) in
-                (e, subst (EndsAt numbers marks c) (ap (λ s. s .place) (sym s ∙ r)) (h, p, b))
+            | ended e j n f s ↦ (e, at-fault-exactly numbers marks e (λ z. omega (arith, f .0)) c i not-0 .0 r)
             | whole e h b s ↦ absurd (not-0 (sym (ap (λ s. s .code) (sym s ∙ r))))
           ]
 
@@ -187,11 +204,11 @@ module _ (numbers marks : List ℕ) where
       elim (stage numbers marks) [
         | unequal n s ↦ inr (inr (inl (ap (λ s. s .code) s)))
         | empty e o s ↦ inr (inr (inr (inl (ap (λ s. s .code) s))))
-        | ended e i h n b s ↦
+        | ended e i n f s ↦
             elim (standing (getD marks i 0) (getD numbers i 0)) [
-              | fits z f ↦ absurd (n f)
-              | overflowed m z f ↦ inr (inl (ap (λ s. s .code) s ∙ f))
-              | bad m z f ↦ inr (inr (inr (inr (ap (λ s. s .code) s ∙ f))))
+              | fits z g h ↦ absurd (n h)
+              | overflowed m z g h ↦ inr (inl (ap (λ s. s .code) s ∙ h))
+              | bad b g h ↦ inr (inr (inr (inr (ap (λ s. s .code) s ∙ h))))
             ]
         | whole e h b s ↦ inl (ap (λ s. s .code) s)
       ]

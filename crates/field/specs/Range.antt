@@ -4,10 +4,11 @@ use mathlib.Core.Path.{_≡_}
 use mathlib.Core.Bool.{cond}
 use mathlib.Core.List.{List, [], _∷_}
 use Prim.Native.Nat.{ℕ, suc, _-_, _<_, min, max}
-use lib.Dec.{eqb, ltb}
+use lib.Dec.{eqb}
 use lib.ListN.{length, getD}
 use Rattle.whole.specs.logarithm.{log-of}
-use Rattle.field.specs.Field.{faultAt, firstFault}
+use Rattle.places.specs.Faults.{atFirstFault}
+use Rattle.field.specs.Field.{faultAt}
 
 -- what is kept of m and a list's numbers, where `keep` says which of two
 unfoldable pub keptFrom : (ℕ → ℕ → ℕ) → ℕ → List ℕ → ℕ
@@ -54,10 +55,7 @@ rangeOf numbers = ranged (least numbers) (greatest numbers) (packingWidth (great
 
 -- the earliest fault, or the range
 abbrev pub scanPlaces : List ℕ → List ℕ → Scanned
-scanPlaces numbers marks =
-    cond (ltb (firstFault numbers marks) (length numbers))
-    (refused (faultAt numbers marks (firstFault numbers marks)) (firstFault numbers marks))
-    (rangeOf numbers)
+scanPlaces numbers marks = atFirstFault (faultAt numbers marks) (length numbers) refused (rangeOf numbers)
 
 -- 6 for lists of different lengths, 14 for an empty field, then the places
 unfoldable pub scanOf : List ℕ → List ℕ → Scanned

@@ -11,7 +11,7 @@ use Rattle.checked.specs.declared.types.Both.{Both}
 use Rattle.checked.specs.declared.types.Both.the-variants as both
 use Rattle.checked.specs.declared.types.Checked64.the-variants.{Fits, Overflowed}
 use Rattle.checked.specs.Value.{Value, checkedOf, least, sumOf, productOf, bothOf}
-use Rattle.checked.proofs.Arms.{both-are}
+use Rattle.checked.proofs.BothFit.{both-are}
 use Rattle.shape.specs.Items.{Operation, sum, product, quotient, remainder, power, logarithm, operation, kindOf}
 use Rattle.shape.proofs.Codes.{kind-at, kind-unknown}
 use Rattle.meaning.specs.Meaning.{refusal}

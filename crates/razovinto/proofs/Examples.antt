@@ -4,9 +4,9 @@ use mathlib.Core.Path.{_≡_, refl}
 use mathlib.Core.List.{List, [], _∷_}
 use Prim.Native.Nat.{ℕ}
 use Rattle.checked.specs.Value.{limitOf, checkedOf}
-use Rattle.checked.specs.Paper.{dividedBy}
+use Rattle.checked.specs.Paper.{sumsOf, dividedBy}
 use Rattle.little.specs.Bytes.{bytesOf}
-use Rattle.razovinto.specs.Entry.{sumsOf, returned, afterwards}
+use Rattle.razovinto.specs.Entry.{returned, afterwards}
 
 -- eighteen bytes, each 9
 abbrev nines : List ℕ

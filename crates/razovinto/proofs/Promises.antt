@@ -14,10 +14,10 @@ use lib.ListN.{length, drop}
 use Rattle.whole.specs.logarithm.{log-of}
 use Rattle.checked.specs.declared.types.Checked64.the-variants.{Fits}
 use Rattle.checked.specs.Value.{limitOf, checkedOf}
-use Rattle.checked.specs.Paper.{Paper, given, refused, dividedBy, leftBy, powersOf, logOf}
+use Rattle.checked.specs.Paper.{Paper, given, refused, sumsOf, productsOf, dividedBy, leftBy, powersOf, logOf}
 use Rattle.little.specs.Bytes.{byteAt, part, little, bytesOf}
 use Rattle.little.proofs.Little.{little-bytes}
-use Rattle.razovinto.specs.Entry.{sumsOf, productsOf, resultBytes, returned, afterwards}
+use Rattle.razovinto.specs.Entry.{resultBytes, returned, afterwards}
 use Rattle.razovinto.proofs.Slices.{short-returns, roomy-returns, short-stays, refused-stays, answered-written, value-returns}
 
 -- ---- of every entry

@@ -2,22 +2,11 @@
 -- Assumes nothing.
 use mathlib.Core.Bool.{cond}
 use mathlib.Core.List.{List, [], _∷_, _++_}
-use Prim.Native.Nat.{ℕ, _+_, _*_}
+use Prim.Native.Nat.{ℕ}
 use lib.Dec.{eqb, ltb}
 use lib.ListN.{length, drop}
-use Rattle.checked.specs.Value.{checkedOf}
-use Rattle.checked.specs.Paper.{Paper, given}
+use Rattle.checked.specs.Paper.{Paper}
 use Rattle.little.specs.Bytes.{bytesOf}
-
--- ---- the answers that have no page of their own among the checked numbers
-
-abbrev pub sumsOf : ℕ → ℕ → ℕ → Paper
-sumsOf M l r = given (checkedOf M (l + r))
-
-abbrev pub productsOf : ℕ → ℕ → ℕ → Paper
-productsOf M l r = given (checkedOf M (l * r))
-
--- ---- the slice
 
 -- the 16 bytes of a value: its number, the lowest byte first, its mark, and seven zeros
 abbrev pub resultBytes : ℕ → ℕ → List ℕ

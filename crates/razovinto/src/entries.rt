@@ -10,9 +10,9 @@ use checked::limited::checked_pow;
 use checked::limited::checked_rem;
 use checked::types::Answer64;
 ghost use mathlib.Core.Path.{_≡_};
-ghost use Rattle.checked.specs.Paper.{dividedBy, leftBy, powersOf, logOf};
+ghost use Rattle.checked.specs.Paper.{sumsOf, productsOf, dividedBy, leftBy, powersOf, logOf};
 ghost use Rattle.checked.specs.Value.{limitOf};
-ghost use Rattle.razovinto.specs.Entry.{sumsOf, productsOf, returned, afterwards};
+ghost use Rattle.razovinto.specs.Entry.{returned, afterwards};
 
 // The largest number of 64 bits.
 const LIMIT: u64 = 18446744073709551615;

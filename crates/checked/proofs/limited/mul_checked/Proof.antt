@@ -2,7 +2,7 @@
 -- Assumes nothing.
 use mathlib.Core.Path.{ap₂, sym, _∙_}
 use Rattle.checked.specs.Value.{productOf}
-use Rattle.checked.proofs.Arms.{both-are}
+use Rattle.checked.proofs.BothFit.{both-are}
 use borrow.Author.Needs.{needs}
 use Rattle.checked.proofs.limited.mul_checked.Statement.{statement}
 use Rattle.checked.proofs.limited.mul_checked.Tie as tie

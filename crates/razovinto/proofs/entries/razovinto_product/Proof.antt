@@ -3,8 +3,7 @@
 use mathlib.Core.Path.{ap}
 use borrow.Author.Needs.{needs}
 use Rattle.checked.specs.Value.{limitOf}
-use Rattle.checked.specs.Paper.{given}
-use Rattle.razovinto.specs.Entry.{productsOf}
+use Rattle.checked.specs.Paper.{given, productsOf}
 use Rattle.razovinto.proofs.Slices.{short-gives, entry-gives}
 use Rattle.razovinto.proofs.entries.razovinto_product.Statement.{statement}
 use Rattle.razovinto.proofs.entries.razovinto_product.Tie as tie

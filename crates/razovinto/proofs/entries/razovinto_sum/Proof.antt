@@ -3,8 +3,7 @@
 use mathlib.Core.Path.{ap}
 use borrow.Author.Needs.{needs}
 use Rattle.checked.specs.Value.{limitOf}
-use Rattle.checked.specs.Paper.{given}
-use Rattle.razovinto.specs.Entry.{sumsOf}
+use Rattle.checked.specs.Paper.{given, sumsOf}
 use Rattle.razovinto.proofs.Slices.{short-gives, entry-gives}
 use Rattle.razovinto.proofs.entries.razovinto_sum.Statement.{statement}
 use Rattle.razovinto.proofs.entries.razovinto_sum.Tie as tie
