@@ -7,13 +7,13 @@ use mathlib.Core.List.{List}
 use Prim.Native.Nat.{ℕ, _<_}
 use native.Mathlib.Decide.{ℕ-discrete}
 use native.Mathlib.Omega.{arith}
-use borrow.Author.Tests.{eq-eqb, ne-eqb, eqb-true}
+use borrow.Author.Tests.{eq-eqb, ne-eqb}
 use lib.Dec.{eqb}
 use lib.ListN.{length, getD}
 use Rattle.places.specs.Faults.{NoFaultBefore}
 use Rattle.places.proofs.Faults.{faulty-at, faultless, walk, answer-none, refused-exactly}
-use Rattle.places.proofs.Every.{every-at}
-use Rattle.field.specs.Field.{faultAt, EndsAt, unmarkedAt, unmarked}
+use Rattle.little.proofs.Zeros.{zeros-at}
+use Rattle.field.specs.Field.{faultAt, EndsAt, unmarked}
 use Rattle.field.specs.Range.{refused, rangeOf, scanPlaces, scanOf}
 use Rattle.field.proofs.Faults.{unmarked-faults, marked-faulty}
 
@@ -49,7 +49,7 @@ module _ (numbers marks : List ℕ) where
 
     unmarked-before : (i : ℕ) → unmarked marks i ≡ true → NoFaultBefore (faultAt numbers marks) i
     unmarked-before i u j h =
-        unmarked-faults (getD marks j 0) (getD numbers j 0) (eqb-true (getD marks j 0) 0 (every-at (unmarkedAt marks) i j u h)) .1
+        unmarked-faults (getD marks j 0) (getD numbers j 0) (zeros-at 0 i marks u j (omega arith) h) .1
 
     pub at-unmarked : unmarked marks (length marks) ≡ true → scanOf numbers marks ≡ rangeOf numbers
     at-unmarked u = at-range (unmarked-before (length numbers) (ap (unmarked marks) e ∙ u))

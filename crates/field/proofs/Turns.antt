@@ -9,16 +9,19 @@ use native.Mathlib.Numerals.{add-one}
 use native.Mathlib.Omega.{arith}
 use borrow.Author.Tests.{eq-eqb}
 use lib.ListN.{length, getD, drop, drop-of-length-le}
+use Rattle.little.proofs.Zeros.{zeros-more}
 use Rattle.field.specs.Range.{keptFrom, kept, least, greatest, packingWidth, ranged, rangeOf}
 use Rattle.field.specs.Field.{unmarked}
-use Rattle.field.proofs.Joined.{unmarked-more}
 use Rattle.field.proofs.Ranges.{kept-at, kept-end}
 
 -- ---- the marks
 
 module _ (marks : List ℕ) (i : ℕ) where
   pub unmarked-turn : unmarked marks i ≡ true → getD marks i 0 ≡ 0 → unmarked marks (i + 1) ≡ true
-  unmarked-turn e z = unmarked-more marks i ∙ ap₂ _&&_ e (eq-eqb (getD marks i 0) 0 z)
+  unmarked-turn e z =
+      ap (unmarked marks) (add-one i)
+      ∙ zeros-more 0 i marks (omega arith)
+      ∙ ap₂ _&&_ e (eq-eqb (getD marks i 0) 0 z)
 
   -- where the places passed are unmarked, a marked one is still ahead
   pub marked-ahead : unmarked marks (length marks) ≡ false → unmarked marks i ≡ true → i ≤ length marks → i < length marks

@@ -7,8 +7,8 @@ use mathlib.Core.List.{List}
 use Prim.Native.Nat.{ℕ}
 use lib.Dec.{eqb}
 use lib.ListN.{length, getD}
-use Rattle.places.specs.Places.{every}
 use Rattle.places.specs.Faults.{FirstFault}
+use Rattle.little.specs.Zeros.{zeros}
 
 -- a mark that is 0 or 1, and with 1 the number 0
 abbrev pub wellMarked : ℕ → ℕ → Bool
@@ -46,10 +46,6 @@ EndsAt numbers marks c i = FirstFault (faultAt numbers marks) (length numbers) c
 
 -- ---- for the scan's helpers
 
--- the mark at place i is 0
-abbrev pub unmarkedAt : List ℕ → ℕ → Bool
-unmarkedAt marks i = eqb (getD marks i 0) 0
-
 -- the first n marks are 0
 abbrev pub unmarked : List ℕ → ℕ → Bool
-unmarked marks n = every (unmarkedAt marks) n
+unmarked marks n = zeros 0 n marks

@@ -2,6 +2,7 @@
 use crate::types::Scan;
 use crate::width::packing_width;
 use checked::refusal::Refusal;
+use little::bytes::all_zero;
 ghost use mathlib.Core.Path.{_≡_};
 ghost use mathlib.Core.Bool.{true, false};
 ghost use Prim.Native.Nat.{_<_, min, max};
@@ -21,24 +22,11 @@ pub fn scan(numbers: &[u64], marks: &[u8]) -> Scan
     if numbers.len() == 0 {
         return Scan::Refused(Refusal::FieldEmpty, 0);
     }
-    if unmarked(marks) {
+    if all_zero(marks, 0, marks.len()) {
         return range(numbers);
     }
     let place = first_marked(marks);
     Scan::Refused(fault(marks[place], numbers[place]), place as u64)
-}
-
-// Whether every mark is 0. There is no early exit: the marks are joined by 'or', which a compiler does sixteen at a time.
-fn unmarked(marks: &[u8]) -> bool
-    ensures { λ r. ⌜ r ≡ unmarked (now (marks .entry)) (length (now (marks .entry))) ⌝ }
-{
-    let mut any: u8 = 0;
-    let mut i = 0;
-    while i < marks.len() {
-        any = any | marks[i];
-        i = i + 1;
-    }
-    any == 0
 }
 
 // The least and the greatest number, with the packing width of what lies between them.

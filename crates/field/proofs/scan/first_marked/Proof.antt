@@ -6,8 +6,8 @@ use Prim.Native.Nat.{_+_, _-_, _<_}
 use native.Mathlib.Omega.{arith}
 use borrow.Author.Needs.{needs}
 use lib.ListN.{length}
-use Rattle.places.proofs.Every.{every-none}
-use Rattle.field.specs.Field.{unmarkedAt, unmarked}
+use Rattle.little.proofs.Zeros.{zeros-none}
+use Rattle.field.specs.Field.{unmarked}
 use Rattle.field.proofs.Turns.{unmarked-turn, marked-ahead}
 use Rattle.field.proofs.scan.first_marked.Statement.{statement}
 use Rattle.field.proofs.scan.first_marked.Tie as tie
@@ -21,7 +21,7 @@ abbrev μ-loop : tie.MeasureT-loop
 loop-holds : tie.Need-loop-holds Inv-loop μ-loop
 loop-holds c =
     let marks = c .args .marks .now in
-    let e = every-none (unmarkedAt marks) in
+    let e = zeros-none 0 marks in
     (e, marked-ahead marks 0 (c .pre) e (omega arith))
 
 shared-slice-read-if1 : tie.Need-shared-slice-read-if1 Inv-loop μ-loop

@@ -17,8 +17,8 @@ returns-2 c =
     let g = c .before .before .before .before .args in
     sym (at-empty (g .numbers .now) (g .marks .now) (c .before .if1 .left) (c .if2 .taken))
 
-unmarked-requires : tie.Need-unmarked-requires
-unmarked-requires c κs = search needs
+all-zero-requires : tie.Need-all-zero-requires
+all-zero-requires c κs = search needs
 
 range-requires : tie.Need-range-requires
 range-requires c κs = search needs
@@ -29,10 +29,10 @@ returns-3 c =
     let d = u .before in
     let g = d .before .before .before .before .args in
     c .range .ensures
-    ∙ sym (at-unmarked (g .numbers .now) (g .marks .now) (d .before .if1 .left) (d .if2 .left) (sym (u .unmarked .ensures) ∙ c .before .if3 .taken))
+    ∙ sym (at-unmarked (g .numbers .now) (g .marks .now) (d .before .if1 .left) (d .if2 .left) (sym (u .all-zero .ensures) ∙ c .before .if3 .taken))
 
 first-marked-requires : tie.Need-first-marked-requires
-first-marked-requires c κs = sym (c .before .unmarked .ensures) ∙ c .if3 .left
+first-marked-requires c κs = sym (c .before .all-zero .ensures) ∙ c .if3 .left
 
 shared-slice-read-fault : tie.Need-shared-slice-read-fault
 shared-slice-read-fault c = search needs
@@ -62,7 +62,7 @@ scan-spec =
     (tie.spec
     returns
     returns-2
-    unmarked-requires
+    all-zero-requires
     range-requires
     returns-3
     first-marked-requires
