@@ -14,7 +14,7 @@ use Rattle.checked.specs.Paper.{numberOf}
 use Rattle.checked.proofs.Unique.{not-zero}
 use Rattle.places.specs.Faults.{NoFaultBefore}
 use Rattle.places.proofs.Faults.{no-fault-before-0, no-fault-before-more}
-use Rattle.layout.specs.Editions.{blockLength}
+use Rattle.layout.specs.Editions.{blockLength, one}
 use Rattle.layout.specs.Layout.{count, editionOf}
 use Rattle.layout.specs.Sound.{faultOf}
 use Rattle.layout.specs.Runs.{blockAt}
@@ -69,7 +69,7 @@ sound-here c = sym (c .before .before .sound .ensures) ∙ ap fault (c .enum-tol
 
 count-here
     : (c : tie.After-enum-told Inv-loop μ-loop Inv-search μ-search) →
-    getD (block (c .before .before .before .before)) 4 0 ≤ 55
+    getD (block (c .before .before .before .before)) 4 0 ≤ one .most
 count-here c =
     sound-sizes (editionOf (block (c .before .before .before .before))) (block (c .before .before .before .before))
     (sound-here c) .1
