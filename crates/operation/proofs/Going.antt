@@ -11,7 +11,7 @@ use Rattle.steps.specs.declared.types.Phase.the-variants.{InPower, InLogarithm}
 use Rattle.steps.specs.declared.types.Power.{Power}
 use Rattle.steps.specs.declared.types.Logarithm.{Logarithm}
 use Rattle.steps.specs.Steps.{Outcome, value, within, fails, powerStep, logarithmStep}
-use Rattle.operation.specs.Work.{Reach, reach, goneOn}
+use Rattle.operation.specs.Work.{reach, goneOn}
 use Rattle.operation.proofs.Outcomes.{inLogarithm, dividing-goes, dividing-ends}
 
 -- ---- no further step

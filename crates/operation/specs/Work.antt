@@ -1,7 +1,6 @@
 -- An operation from its first step on, as far as an allowance brings it: what it has come to, and after how many of
 -- the run's steps.
 -- Assumes nothing.
-use mathlib.Core.Path.{_≡_}
 use Prim.Native.Nat.{ℕ, zero, suc, _+_, _-_, _^_, _≤_, _<_}
 use Rattle.checked.specs.Value.{Value}
 use Rattle.checked.specs.Paper.{numberOf}

@@ -1,6 +1,6 @@
 -- An item's end in the state: the three ways in which it lands, and an operation's operands, which leave the hand before it.
 -- Assumes nothing.
-use mathlib.Core.Path.{_≡_, ap, ap₂, sym, _∙_, subst}
+use mathlib.Core.Path.{_≡_, ap, sym, _∙_, subst}
 use mathlib.Core.List.{List, _∷_}
 use Prim.Native.Nat.{ℕ, suc, _+_, _-_, _≤_, _<_}
 use native.Mathlib.Numerals.{add-one}
@@ -15,7 +15,7 @@ use Rattle.steps.specs.declared.types.Phase.the-variants.{Between}
 use Rattle.steps.specs.Steps as steps
 use Rattle.operation.specs.declared.types.Reached.{Reached}
 use Rattle.operation.specs.declared.types.Reached.the-variants as reached
-use Rattle.operation.specs.Work.{begunAs, goneOn, reachOf, workOf}
+use Rattle.operation.specs.Work.{begunAs, reachOf, workOf}
 use Rattle.recipe.specs.declared.types.Advanced.{Advanced}
 use Rattle.recipe.specs.declared.types.Advanced.the-variants as advanced
 use Rattle.recipe.specs.Run.{markOf, numberIn}
@@ -87,7 +87,7 @@ pub record Taken (held : ℕ) (hand marks hand₁ marks₁ hand₂ marks₂ : Li
   pub right : Takes (held - 1) hand marks hand₁ marks₁ r
   pub left : Takes (held - 2) hand₁ marks₁ hand₂ marks₂ l
 
--- the operation is worked out from these operands, with steps of the run's allowance
+-- an operation on these operands, as far as the run's allowance brings it
 pub record Worked (M a from : ℕ) (k : Kind) (l r : Value) (w : Reached) : Type 0 where
   pub allowed : from ≤ a
   pub comes : reachOf from w ≡ workOf M k l r from a
@@ -124,8 +124,8 @@ module _
         goes =
             let h = worked .allowed in
             let o = begunAs M k l r in
-            let goes = goes-on M a (a - from) from o (kind-works M k l r) (omega arith) in
-            subst (GoesOn M a from o) (sym (worked .comes)) goes
+            let on = goes-on M a (a - from) from o (kind-works M k l r) (omega arith) in
+            subst (GoesOn M a from o) (sym (worked .comes)) on
 
         leads
             : (t d : ℕ) (zs : List Item) (x : Item) (p : Operation) → from ≡ suc t → drop d zs ≡ x ∷ drop (suc d) zs →

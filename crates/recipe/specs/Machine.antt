@@ -43,7 +43,8 @@ placedAs d hand x xs w = placed (w .taken) d hand x xs (w .outcome)
 abbrev pub reachedOf : ℕ → ℕ → List Value → Item → List Item → Reached → steps.State
 reachedOf from d hand x xs r = placedAs d hand x xs (reachOf from r)
 
--- no more steps are taken than the allowance a has, `from` among them, and an item stops before its end only where all are taken
+-- no more steps are taken than the allowance a has, `from` among them, and an item stops before its end only where all
+-- are taken
 abbrev pub Kept : ℕ → ℕ → ℕ → steps.Outcome → Type 0
 Kept a from t (steps.value v) = (from ≤ t) × (t ≤ a)
 Kept a from t (steps.within p) = t ≡ a
