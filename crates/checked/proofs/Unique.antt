@@ -83,7 +83,7 @@ refusal-unique = one numberOf refusalOf refusal-back
 
 -- ---- answers
 
--- Of any type of answers A, told in numbers as S: where the code is 0 the values say the answer, otherwise a refusal does.
+-- Of any type of answers A, told in numbers as S: values where the code is 0, a refusal elsewhere.
 module _ {A S : Type 0} (code : S → ℕ) (values : S → A) (refused : S → Refusal → A) where
   pub back : S → A
   back s = cond (eqb (code s) 0) (values s) (refused s (refusalOf (code s)))
@@ -120,7 +120,10 @@ valueIn p = cond (eqb (p .mark) 0) (c64.Fits (p .number)) c64.Overflowed
 pub paper-unique : (x y : Answer64) → paper x ≡ paper y → x ≡ y
 paper-unique =
     told-apart (λ p. p .code) (λ p. a64.Value (valueIn p)) (λ p. a64.Refused) paper
-    (elim [ a64.Value c ↦ elim c [ c64.Fits n ↦ gives refl refl | c64.Overflowed ↦ gives refl refl ] | a64.Refused r ↦ refuses r refl refl ])
+    (elim [
+      | a64.Value c ↦ elim c [ c64.Fits n ↦ gives refl refl | c64.Overflowed ↦ gives refl refl ]
+      | a64.Refused r ↦ refuses r refl refl
+    ])
 
 pub plain-unique : (x y : Plain64) → plain x ≡ plain y → x ≡ y
 plain-unique =

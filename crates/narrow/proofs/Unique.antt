@@ -41,7 +41,10 @@ value8-unique = one value8 back8 (elim [ c8.Fits n ↦ refl | c8.Overflowed ↦ 
 pub paper8-unique : (x y : Answer8) → paper8 x ≡ paper8 y → x ≡ y
 paper8-unique =
     told-apart (λ p. p .code) (λ p. a8.Value (back8 (valueIn p))) (λ p. a8.Refused) paper8
-    (elim [ a8.Value c ↦ elim c [ c8.Fits n ↦ gives refl refl | c8.Overflowed ↦ gives refl refl ] | a8.Refused r ↦ refuses r refl refl ])
+    (elim [
+      | a8.Value c ↦ elim c [ c8.Fits n ↦ gives refl refl | c8.Overflowed ↦ gives refl refl ]
+      | a8.Refused r ↦ refuses r refl refl
+    ])
 
 pub plain8-unique : (x y : Plain8) → plain8 x ≡ plain8 y → x ≡ y
 plain8-unique =
@@ -62,7 +65,10 @@ value16-unique = one value16 back16 (elim [ c16.Fits n ↦ refl | c16.Overflowed
 pub paper16-unique : (x y : Answer16) → paper16 x ≡ paper16 y → x ≡ y
 paper16-unique =
     told-apart (λ p. p .code) (λ p. a16.Value (back16 (valueIn p))) (λ p. a16.Refused) paper16
-    (elim [ a16.Value c ↦ elim c [ c16.Fits n ↦ gives refl refl | c16.Overflowed ↦ gives refl refl ] | a16.Refused r ↦ refuses r refl refl ])
+    (elim [
+      | a16.Value c ↦ elim c [ c16.Fits n ↦ gives refl refl | c16.Overflowed ↦ gives refl refl ]
+      | a16.Refused r ↦ refuses r refl refl
+    ])
 
 pub plain16-unique : (x y : Plain16) → plain16 x ≡ plain16 y → x ≡ y
 plain16-unique =
@@ -83,7 +89,10 @@ value32-unique = one value32 back32 (elim [ c32.Fits n ↦ refl | c32.Overflowed
 pub paper32-unique : (x y : Answer32) → paper32 x ≡ paper32 y → x ≡ y
 paper32-unique =
     told-apart (λ p. p .code) (λ p. a32.Value (back32 (valueIn p))) (λ p. a32.Refused) paper32
-    (elim [ a32.Value c ↦ elim c [ c32.Fits n ↦ gives refl refl | c32.Overflowed ↦ gives refl refl ] | a32.Refused r ↦ refuses r refl refl ])
+    (elim [
+      | a32.Value c ↦ elim c [ c32.Fits n ↦ gives refl refl | c32.Overflowed ↦ gives refl refl ]
+      | a32.Refused r ↦ refuses r refl refl
+    ])
 
 pub plain32-unique : (x y : Plain32) → plain32 x ≡ plain32 y → x ≡ y
 plain32-unique =
