@@ -6,7 +6,7 @@ use mathlib.Core.Bool.{false, cond}
 use mathlib.Core.List.{List, [], _∷_}
 use Prim.Native.Nat.{ℕ}
 use native.Mathlib.Omega.{arith}
-use borrow.Author.Tests.{ne-eqb}
+use borrow.Author.Tests.{eq-eqb, ne-eqb}
 use lib.Dec.{eqb}
 use Rattle.checked.specs.declared.refusal.Refusal.{Refusal}
 use Rattle.checked.specs.declared.refusal.Refusal.the-variants as refusal
@@ -17,8 +17,8 @@ use Rattle.checked.specs.declared.types.Plain64.{Plain64}
 use Rattle.checked.specs.declared.types.Plain64.the-variants as p64
 use Rattle.checked.specs.declared.types.Option64.{Option64}
 use Rattle.checked.specs.declared.types.Option64.the-variants as o64
-use Rattle.checked.specs.Value.{Value, least, option}
-use Rattle.checked.specs.Paper.{Paper, paper, plain, given, refused, numberOf}
+use Rattle.checked.specs.Value.{Value, option}
+use Rattle.checked.specs.Paper.{Paper, paper, plain, numberOf}
 
 -- what has a way back is determined by where it goes
 pub one : {A B : Type 0} (f : A → B) (back : B → A) → ((x : A) → back (f x) ≡ x) → (x y : A) → f x ≡ f y → x ≡ y
@@ -81,38 +81,54 @@ not-zero r =
 pub refusal-unique : (r s : Refusal) → numberOf r ≡ numberOf s → r ≡ s
 refusal-unique = one numberOf refusalOf refusal-back
 
--- ---- answers, for any type of values and of answers
+-- ---- answers
 
-valueOf : Paper → Value
-valueOf p = cond (eqb (p .mark) 0) (c64.Fits (p .number)) c64.Overflowed
+-- Of any type of answers A, told in numbers as S: values where the code is 0, a refusal elsewhere.
+module _ {A S : Type 0} (code : S → ℕ) (values : S → A) (refused : S → Refusal → A) where
+  pub back : S → A
+  back s = cond (eqb (code s) 0) (values s) (refused s (refusalOf (code s)))
 
-value-back : (v : Value) → valueOf (given v) ≡ v
-unfolding valueOf
-value-back (c64.Fits n) = refl
-value-back c64.Overflowed = refl
+  -- the answer x is what its numbers say
+  pub data Told (told : A → S) (x : A) : Type 0 where
+    gives : code (told x) ≡ 0 → values (told x) ≡ x → Told told x
+    refuses : (r : Refusal) → code (told x) ≡ numberOf r → refused (told x) r ≡ x → Told told x
 
-pub answerOf : {A C : Type 0} → (C → A) → (Refusal → A) → (Value → C) → Paper → A
-answerOf ok not-ok back p = cond (eqb (p .code) 0) (ok (back (valueOf p))) (not-ok (refusalOf (p .code)))
+  module _ (told : A → S) (each : (x : A) → Told told x) where
+    pub told-back : (x : A) → back (told x) ≡ x
+    unfolding back
+    told-back x =
+        let s = told x in
+        elim (each x) [
+          | gives z e ↦ ap (λ t. cond t (values s) (refused s (refusalOf (code s)))) (eq-eqb (code s) 0 z) ∙ e
+          | refuses r c e ↦
+              ap (λ n. cond (eqb n 0) (values s) (refused s (refusalOf n))) c
+              ∙ ap (λ t. cond t (values s) (refused s (refusalOf (numberOf r)))) (not-zero r)
+              ∙ ap (refused s) (refusal-back r)
+              ∙ e
+        ]
 
-module _ {A C : Type 0} (ok : C → A) (not-ok : Refusal → A) (back : Value → C) where
-  pub given-back : (v : Value) → answerOf ok not-ok back (given v) ≡ ok (back v)
-  unfolding answerOf
-  given-back (c64.Fits n) = ap (λ v. ok (back v)) (value-back (c64.Fits n))
-  given-back c64.Overflowed = ap (λ v. ok (back v)) (value-back c64.Overflowed)
+    -- so no two answers have the same numbers
+    pub told-apart : (x y : A) → told x ≡ told y → x ≡ y
+    told-apart = one told back told-back
 
-  pub refused-back : (r : Refusal) → answerOf ok not-ok back (refused (numberOf r)) ≡ not-ok r
-  unfolding answerOf
-  refused-back r =
-      ap (λ t. cond t (ok (back (valueOf (refused (numberOf r))))) (not-ok (refusalOf (numberOf r)))) (not-zero r) ∙ ap not-ok (refusal-back r)
+-- the value that an answer gives
+abbrev pub valueIn : Paper → Value
+valueIn p = cond (eqb (p .mark) 0) (c64.Fits (p .number)) c64.Overflowed
 
 -- ---- 64 bits
 
 pub paper-unique : (x y : Answer64) → paper x ≡ paper y → x ≡ y
-paper-unique = one paper (answerOf a64.Value a64.Refused (λ v. v)) (elim [ a64.Value c ↦ given-back a64.Value a64.Refused (λ v. v) c | a64.Refused r ↦ refused-back a64.Value a64.Refused (λ v. v) r ])
+paper-unique =
+    told-apart (λ p. p .code) (λ p. a64.Value (valueIn p)) (λ p. a64.Refused) paper
+    (elim [
+      | a64.Value c ↦ elim c [ c64.Fits n ↦ gives refl refl | c64.Overflowed ↦ gives refl refl ]
+      | a64.Refused r ↦ refuses r refl refl
+    ])
 
 pub plain-unique : (x y : Plain64) → plain x ≡ plain y → x ≡ y
 plain-unique =
-    one plain (answerOf p64.Number p64.Refused (least 0)) (elim [ p64.Number n ↦ given-back p64.Number p64.Refused (least 0) (c64.Fits n) | p64.Refused r ↦ refused-back p64.Number p64.Refused (least 0) r ])
+    told-apart (λ p. p .code) (λ p. p64.Number (p .number)) (λ p. p64.Refused) plain
+    (elim [ p64.Number n ↦ gives refl refl | p64.Refused r ↦ refuses r refl refl ])
 
 pub option-unique : (x y : Option64) → option x ≡ option y → x ≡ y
 option-unique = one option (elim [ c64.Fits n ↦ o64.Some n | c64.Overflowed ↦ o64.None ]) (elim [ o64.Some n ↦ refl | o64.None ↦ refl ])

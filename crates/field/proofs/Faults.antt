@@ -66,7 +66,17 @@ module _ (mark number : ℕ) where
 
   -- 6 and 14 are no place's
   pub fault-not-6 : faultOf mark number ≡ 6 → ⊥
-  fault-not-6 e = elim standing [ fits z g f ↦ omega arith | overflowed m z g f ↦ omega arith | bad b g f ↦ omega arith ]
+  fault-not-6 e =
+      elim standing [
+        | fits z g f ↦ omega arith
+        | overflowed m z g f ↦ omega arith
+        | bad b g f ↦ omega arith
+      ]
 
   pub fault-not-14 : faultOf mark number ≡ 14 → ⊥
-  fault-not-14 e = elim standing [ fits z g f ↦ omega arith | overflowed m z g f ↦ omega arith | bad b g f ↦ omega arith ]
+  fault-not-14 e =
+      elim standing [
+        | fits z g f ↦ omega arith
+        | overflowed m z g f ↦ omega arith
+        | bad b g f ↦ omega arith
+      ]

@@ -51,7 +51,12 @@ module _ (mark number : ℕ) where
   fault-0-exactly = (only, λ z. unmarked-faults mark number z .1)
     where
       only : faultOf mark number ≡ 0 → mark ≡ 0
-      only f = elim (standing mark number) [ fits z g h ↦ z | overflowed e z g h ↦ omega arith | bad b g h ↦ omega arith ]
+      only f =
+          elim (standing mark number) [
+            | fits z g h ↦ z
+            | overflowed e z g h ↦ omega arith
+            | bad b g h ↦ omega arith
+          ]
 
   -- 15 exactly when the mark is neither 0 nor 1, or it is 1 and the number isn't 0
   pub fault-15-exactly : (faultOf mark number ≡ 15) ↔ BadMark mark number
@@ -81,7 +86,12 @@ module _ (numbers marks : List ℕ) where
   -- ---- the range
 
   -- where the code is 0, every place was looked at and the answer is the range
-  ranged-whole : scanOf numbers marks .code ≡ 0 → (length numbers ≡ length marks) × (0 < length numbers) × NoFaultBefore (faultAt numbers marks) (length numbers) × (scanOf numbers marks ≡ rangeOf numbers)
+  ranged-whole
+      : scanOf numbers marks .code ≡ 0 →
+      (length numbers ≡ length marks)
+      × (0 < length numbers)
+      × NoFaultBefore (faultAt numbers marks) (length numbers)
+      × (scanOf numbers marks ≡ rangeOf numbers)
   ranged-whole z =
       elim (stage numbers marks) [
         | unequal n s ↦ let f : ⊥ = omega (arith, ap (λ s. s .code) s) in absurd f
@@ -101,7 +111,9 @@ module _ (numbers marks : List ℕ) where
 
       given : (length numbers ≡ length marks) × (0 < length numbers) × ((i : ℕ) → i < length numbers → getD marks i 0 ≡ 0) → scanOf numbers marks .code ≡ 0
       given (e, h, a) =
-          ap (λ s. s .code) (at-range numbers marks e (λ z. omega arith) (λ i k. fault-0-exactly (getD marks i 0) (getD numbers i 0) .1 (a i k)))
+          let b : NoFaultBefore (faultAt numbers marks) (length numbers) =
+          λ i k. fault-0-exactly (getD marks i 0) (getD numbers i 0) .1 (a i k) in
+          ap (λ s. s .code) (at-range numbers marks e (λ z. omega arith) b)
 
   module _ (ranged : scanOf numbers marks .code ≡ 0) where
     -- the least is among the numbers, and at most each of them
@@ -164,7 +176,8 @@ module _ (numbers marks : List ℕ) where
           elim (stage numbers marks) [
             | unequal n s ↦ let f : ⊥ = omega (arith, ap (λ s. s .code) s) in absurd f
             | empty e o s ↦ (e, o)
-            | ended e i n f s ↦ absurd (fault-not-14 (getD marks i 0) (getD numbers i 0) (sym (ap (λ s. s .code) s) ∙ c))
+            | ended e i n f s ↦
+                absurd (fault-not-14 (getD marks i 0) (getD numbers i 0) (sym (ap (λ s. s .code) s) ∙ c))
             | whole e h b s ↦ let f : ⊥ = omega (arith, ap (λ s. s .code) s) in absurd f
           ]
 

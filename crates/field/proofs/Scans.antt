@@ -34,7 +34,8 @@ module _ (numbers marks : List ℕ) where
     at-places : scanOf numbers marks ≡ scanPlaces numbers marks
     unfolding scanOf
     at-places =
-        ap (λ t. cond t (cond (eqb (length numbers) 0) (refused 14 0) (scanPlaces numbers marks)) (refused 6 0)) (eq-eqb (length numbers) (length marks) e)
+        ap (λ t. cond t (cond (eqb (length numbers) 0) (refused 14 0) (scanPlaces numbers marks)) (refused 6 0))
+        (eq-eqb (length numbers) (length marks) e)
         ∙ ap (λ t. cond t (refused 14 0) (scanPlaces numbers marks)) (ne-eqb (length numbers) 0 n)
 
     pub at-range : NoFaultBefore (faultAt numbers marks) (length numbers) → scanOf numbers marks ≡ rangeOf numbers
@@ -43,7 +44,8 @@ module _ (numbers marks : List ℕ) where
     pub at-fault-exactly : (c i : ℕ) → (c ≡ 0 → ⊥) → (scanOf numbers marks ≡ refused c i) ↔ EndsAt numbers marks c i
     at-fault-exactly c i z =
         subst (λ s. (s ≡ refused c i) ↔ EndsAt numbers marks c i) (sym at-places)
-        (refused-exactly (faultAt numbers marks) (length numbers) refused (rangeOf numbers) (λ s. s .code) (λ s. s .place) (λ c i. refl) (λ c i. refl) refl c i z)
+        (refused-exactly (faultAt numbers marks) (length numbers) refused (rangeOf numbers)
+        (λ s. s .code) (λ s. s .place) (λ c i. refl) (λ c i. refl) refl c i z)
 
     -- ---- by the marks alone
 
