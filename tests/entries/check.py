@@ -1,16 +1,17 @@
 #!/usr/bin/env python3
-"""Sees that every public function asks nothing, promises something and has its row in docs/ENTRIES.md, and that the pages name
-no theorem that isn't there.
+"""Sees that every public function asks nothing, promises something and has its row in docs/ENTRIES.md, and that no
+theorem is named on the pages that isn't there.
 
     check.py
 
 A function is written `crate::module::name`, a method `crate::Type::name`. Every must-fail edit of the crates
 must be named on the page too, and every edit that the page names must be there.
 
-A theorem is named on README.md, docs/ENTRIES.md and docs/DECISIONS.md in backquotes, as lowercase words joined by dashes,
-`count-bounded`; or with its page before it, `Closed.log-equation`, as a name of one word always is. It must be declared in the
-crates' proofs or specs, and where its page is named, on a page of that name. In a table whose rows end with a page of a crate,
-`recipe.Promises`, the names of the cell before must stand on that page or be brought there by `pub use`.
+A theorem is named on README.md, docs/ENTRIES.md and docs/DECISIONS.md in backquotes, as lowercase words joined by
+dashes, `count-bounded`; or with its page before it, `Closed.log-equation`, as a name of one word always is. It must be
+declared in the crates' proofs or specs, and where its page is named, on a page of that name. Where a row of a table
+ends with a page of a crate, `recipe.Promises`, the names in the cell before it must stand there, or come there by
+`pub use`.
 It prints what is wrong, a line each, and then exits 1.
 """
 import glob
@@ -127,7 +128,7 @@ def page_of(row):
 
 
 def tried(texts, pages):
-    """The check must see, on every page, a theorem that stands nowhere, and in a table one that stands on another page."""
+    """The check must see a theorem that stands nowhere, on each page, and one that stands on another page."""
     for file, text in texts.items():
         name = THEOREM.search(text).group(0)
         if not theorem_faults({file: text.replace(name, name[:-1] + "x`")}, pages)[0]:
@@ -150,7 +151,7 @@ def main():
         print(f"entries: {fault}", file=sys.stderr)
     if faults:
         sys.exit(1)
-    print(f"entries: {functions} public functions, each with a promise and a row; {edits} must-fail edits, each named;")
+    print(f"entries: {functions} public functions, each with a promise and a row; {edits} must-fail edits, each named")
     print(f"entries: {theorems} theorems named on the pages, each found")
 
 
