@@ -9,41 +9,50 @@ use borrow.Author.Tests.{leb-true}
 use lib.Dec.{eqb, leb}
 use Rattle.places.specs.Places.{every}
 use Rattle.places.proofs.Every.{both-hold, same-truth, every-of}
+use Rattle.little.specs.Zeros.{zeros}
+use Rattle.little.proofs.Zeros.{zeros-at, zeros-within, zeros-joined}
 use Rattle.field.proofs.Marks.{marked-0}
-use Rattle.layout.specs.Layout.{edition, count, number, mark, zeros, placeWellMarked, hasLayout}
-use Rattle.layout.proofs.Zeros.{zeros-at, zeros-within, zeros-joined}
+use Rattle.layout.specs.Editions.{marksAt, checkAt, Edition}
+use Rattle.layout.specs.Layout.{edition, count, numberFrom, mark, placeWellMarked, hasHead, hasLayoutAs}
 use Rattle.layout.proofs.Layouts.{layout-parts, parts-layout}
 use Rattle.block.specs.Marks.{marksFine}
 
-module _ (b : List ℕ) where
-  -- no mark at all
-  pub unmarked : (c : ℕ) → c ≤ 55 → zeros 448 508 b ≡ true → true ≡ marksFine b c
-  unmarked c h z =
-      sym
-      (ap₂ _&&_
-      (zeros-within b 448 508 (448 + c) 508 (omega arith) (omega arith) z)
-      (every-of (placeWellMarked b) c (λ i l. sym (marked-0 (mark b i) (number b i) (zeros-at 448 508 b z (448 + i) (omega arith) (omega arith))))))
+-- no mark at all
+pub unmarked
+    : (from : ℕ) (b : List ℕ) (c : ℕ) → from + 8 * c ≤ marksAt → zeros marksAt checkAt b ≡ true → true ≡ marksFine from b c
+unmarked from b c h z =
+    sym
+    (ap₂ _&&_
+    (zeros-within b marksAt checkAt (marksAt + c) checkAt (omega arith) (omega arith) z)
+    (every-of (placeWellMarked from b) c
+    (λ i l. sym (marked-0 (mark b i) (numberFrom from b i) (zeros-at marksAt checkAt b z (marksAt + i) (omega arith) (omega arith))))))
 
-  -- where the rest of the layout is right, the marks decide
-  pub marks-decide
-      : eqb (edition b) 1 ≡ true → leb (count b) 55 ≡ true → zeros 6 8 b ≡ true → zeros (8 + 8 * count b) 448 b ≡ true → marksFine b (count b) ≡ hasLayout b
-  marks-decide e c z n = same-truth (marksFine b (count b)) (hasLayout b) fine laid
-    where
-      fine : marksFine b (count b) ≡ true → hasLayout b ≡ true
-      fine m =
-          let p = both-hold (zeros (448 + count b) 508 b) (every (placeWellMarked b) (count b)) m in
-          let l = leb-true (count b) 55 c in
-          parts-layout b (record {
-            editioned = e;
-            counted = c;
-            zeros-6-7 = z;
-            unused-numbers = n;
-            unused-marks = zeros-within b (448 + count b) 508 (448 + count b) 503 (omega arith) (omega arith) (p .0);
-            zeros-503-507 = zeros-within b (448 + count b) 508 503 508 (omega arith) (omega arith) (p .0);
-            marked = p .1;
-          })
+-- where the rest of an edition's layout is right, the marks decide
+pub marks-decide
+    : (E : Edition) (b : List ℕ) →
+    eqb (edition b) (E .tag) ≡ true →
+    leb (count b) (E .most) ≡ true →
+    hasHead E b ≡ true →
+    zeros (E .first + 8 * count b) marksAt b ≡ true →
+    marksFine (E .first) b (count b) ≡ hasLayoutAs E b
+marks-decide E b e c z n = same-truth (marksFine (E .first) b (count b)) (hasLayoutAs E b) fine laid
+  where
+    fine : marksFine (E .first) b (count b) ≡ true → hasLayoutAs E b ≡ true
+    fine m =
+        let p = both-hold (zeros (marksAt + count b) checkAt b) (every (placeWellMarked (E .first) b) (count b)) m in
+        let l = leb-true (count b) (E .most) c in
+        let within = zeros-within b (marksAt + count b) checkAt in
+        parts-layout E b (record {
+          editioned = e;
+          counted = c;
+          headed = z;
+          unused-numbers = n;
+          unused-marks = within (marksAt + count b) (E .past) (omega arith) (omega arith) (p .0);
+          zeros-past = within (E .past) checkAt (omega arith) (omega arith) (p .0);
+          marked = p .1;
+        })
 
-      laid : hasLayout b ≡ true → marksFine b (count b) ≡ true
-      laid h =
-          let l = layout-parts b h in
-          ap₂ _&&_ (zeros-joined b (448 + count b) 503 508 (l .unused-marks) (l .zeros-503-507)) (l .marked)
+    laid : hasLayoutAs E b ≡ true → marksFine (E .first) b (count b) ≡ true
+    laid h =
+        let l = layout-parts E b h in
+        ap₂ _&&_ (zeros-joined b (marksAt + count b) (E .past) checkAt (l .unused-marks) (l .zeros-past)) (l .marked)

@@ -6,7 +6,7 @@ use Prim.Native.Nat.{ℕ}
 use lib.Dec.{eqb}
 use Rattle.checked.specs.Paper.{numberOf}
 use Rattle.checked.proofs.Unique.{one, refusalOf, refusal-back, not-zero}
-use Rattle.layout.specs.Sound.{Reading}
+use Rattle.layout.specs.Reading.{Reading}
 use Rattle.block.specs.declared.types.Sound.{Sound}
 use Rattle.block.specs.declared.types.Sound.the-variants as sound
 use Rattle.block.specs.declared.types.Read.{Read}

@@ -2,7 +2,7 @@
 -- Assumes nothing.
 use Prim.Native.Nat.{ℕ}
 use Rattle.checked.specs.Paper.{numberOf}
-use Rattle.layout.specs.Sound.{Reading, refused, given}
+use Rattle.layout.specs.Reading.{Reading, refused, given}
 use Rattle.block.specs.declared.types.Sound.{Sound}
 use Rattle.block.specs.declared.types.Sound.the-variants as sound
 use Rattle.block.specs.declared.types.Read.{Read}

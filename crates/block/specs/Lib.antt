@@ -1,4 +1,3 @@
--- The definitions of this crate: what its functions answer in numbers; and, for its helpers, the sum by rows and the part of the layout on marks.
+-- The definitions of this crate: what its functions answer in numbers; and, for its helpers, the part of the layout on marks.
 pub mod Answers
-pub mod Rows
 pub mod Marks

@@ -6,12 +6,14 @@ use Prim.Native.Nat.{ℕ, _+_}
 use lib.Dec.{eqb}
 use lib.ListN.{length}
 use Rattle.places.specs.Places.{every}
-use Rattle.layout.specs.Layout.{blockLength, zeros, placeWellMarked}
+use Rattle.little.specs.Zeros.{zeros}
+use Rattle.layout.specs.Editions.{blockLength, marksAt, checkAt, one}
+use Rattle.layout.specs.Layout.{placeWellMarked}
 
--- unused marks and the bytes after them are zero, and the marks in use are well marked
-abbrev pub marksFine : List ℕ → ℕ → Bool
-marksFine b count = zeros (448 + count) 508 b && every (placeWellMarked b) count
+-- unused marks and the bytes after them are zero, and the marks in use are well marked, where the numbers begin at place `from`
+abbrev pub marksFine : ℕ → List ℕ → ℕ → Bool
+marksFine from b count = zeros (marksAt + count) checkAt b && every (placeWellMarked from b) count
 
--- a block, and the bytes of all its marks are zero
+-- a block, and the bytes of all its marks are zero; no edition has more of them than edition 1
 unfoldable pub noMarks : List ℕ → Bool
-noMarks b = eqb (length b) blockLength && zeros 448 503 b
+noMarks b = eqb (length b) blockLength && zeros marksAt (one .past) b

@@ -3,5 +3,4 @@ pub mod bytes;
 pub mod copy;
 pub mod read;
 pub mod sound;
-pub mod sum;
 pub mod types;

@@ -1,13 +1,15 @@
 // The block reader: the values of a sound block go into two lent lists, and nothing is written where the answer is a refusal.
-use crate::bytes::word;
+use crate::bytes::word_at;
 use crate::copy::copy_marks;
 use crate::copy::copy_numbers;
 use crate::sound::sound;
 use crate::types::Read;
 use crate::types::Sound;
 use checked::refusal::Refusal;
+use layout::one;
 ghost use mathlib.Core.Path.{_≡_};
-ghost use Rattle.layout.specs.Sound.{faultOf, readingOf, numbersAfter, marksAfter};
+ghost use Rattle.layout.specs.Sound.{faultOf};
+ghost use Rattle.layout.specs.Reading.{readingOf, numbersAfter, marksAfter};
 ghost use Rattle.block.specs.Answers.{reading};
 
 // Room is looked at in both lists before either is written.
@@ -24,10 +26,10 @@ fn values(block: &[u8], numbers: &mut [u64], marks: &mut [u8]) -> Read
     if marks.len() < count {
         return Read::Refused(Refusal::ListTooShort);
     }
-    copy_numbers(block, count, numbers);
+    copy_numbers(block, one::FIRST, count, numbers);
     copy_marks(block, count, marks);
     Read::Values {
-        number: word(block, 0),
+        number: word_at(block, 0),
         count,
     }
 }

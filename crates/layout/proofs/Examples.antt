@@ -5,9 +5,10 @@ use mathlib.Core.List.{List}
 use Prim.Native.Nat.{ℕ}
 use lib.ListN.{set, replicate}
 use Rattle.places.specs.Places.{total, every}
-use Rattle.layout.specs.Bytes.{little}
-use Rattle.layout.specs.Layout.{checkSum, hasLayout, check, number, zeros}
-use Rattle.layout.specs.Sound.{faultOf}
+use Rattle.little.specs.Bytes.{little}
+use Rattle.little.specs.Zeros.{zeros}
+use Rattle.layout.specs.Layout.{checkSum, hasHead, hasLayoutAs, check, numberFrom}
+use Rattle.layout.specs.Sound.{faultAs, faultOf}
 
 -- block 0 of edition 1 with a count, a first byte of the first number, a first mark, and a check below 65536
 pub block : ℕ → ℕ → ℕ → ℕ → ℕ → List ℕ
@@ -18,5 +19,5 @@ unfolding checkSum total block
 small-checks = (refl, refl, refl)
 
 pub small-blocks : (faultOf (block 0 0 0 6 0) ≡ 0) × (faultOf (block 1 3 0 38 0) ≡ 0) × (faultOf (block 1 0 1 204 1) ≡ 0)
-unfolding faultOf checkSum total block hasLayout check number zeros every little
+unfolding faultAs checkSum total block hasHead hasLayoutAs check numberFrom zeros every little
 small-blocks = (refl, refl, refl)

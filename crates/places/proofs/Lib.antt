@@ -1,5 +1,7 @@
--- Laws on the first place, on every place, on sums over places, and on lists written place by place.
+-- Laws on the first place, on every place, on sums over places, on lists written place by place, and on the earliest fault.
 pub mod First
 pub mod Every
 pub mod Totals
 pub mod Tables
+pub mod Copies
+pub mod Faults

@@ -57,6 +57,28 @@ total-swapped f zero n = sym (total-zero n)
 total-swapped f (suc m) n =
     ap (λ t. t + total (f m) n) (total-swapped f m n) ∙ sym (total-sum (λ j. total (λ i. f i j) m) (f m) n)
 
+-- ---- column by column
+
+-- the sum over w * h places of (i + 1) times f, from the sums of each of w columns of h places: of f, and of f times its row
+pub by-columns
+    : (f : ℕ → ℕ) (w h : ℕ) →
+    total (λ j. w * total (λ q. q * f (w * q + j)) h + suc j * total (λ q. f (w * q + j)) h) w ≡ total (λ i. suc i * f i) (w * h)
+by-columns f w h =
+    total-same (λ j. w * total (λ q. q * f (w * q + j)) h + suc j * total (λ q. f (w * q + j)) h) (λ j. total (λ q. suc (w * q + j) * f (w * q + j)) h) w (λ j l. column j)
+    ∙ sym (total-swapped (λ q j. suc (w * q + j) * f (w * q + j)) h w)
+    ∙ sym (total-rows (λ i. suc i * f i) w h)
+  where
+    column
+        : (j : ℕ) →
+        w * total (λ q. q * f (w * q + j)) h + suc j * total (λ q. f (w * q + j)) h ≡ total (λ q. suc (w * q + j) * f (w * q + j)) h
+    column j =
+        let rows = total-times w (λ q. q * f (w * q + j)) h in
+        let column-number = total-times (suc j) (λ q. f (w * q + j)) h in
+        let both = total-sum (λ q. w * (q * f (w * q + j))) (λ q. suc j * f (w * q + j)) h in
+        let same =
+        total-same (λ q. w * (q * f (w * q + j)) + suc j * f (w * q + j)) (λ q. suc (w * q + j) * f (w * q + j)) h (λ q l. omega arith) in
+        omega arith
+
 -- ---- bounds
 
 pub total-at-most : (f : ℕ → ℕ) (most n : ℕ) → ((j : ℕ) → j < n → f j ≤ most) → total f n ≤ n * most

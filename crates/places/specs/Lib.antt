@@ -1,2 +1,3 @@
--- The definitions of this crate: what holds at the places of a list, and what is worked out over them.
+-- The definitions of this crate: what holds at the places of a list, what is worked out over them, and the earliest place with a fault.
 pub mod Places
+pub mod Faults

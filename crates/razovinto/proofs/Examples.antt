@@ -5,7 +5,7 @@ use mathlib.Core.List.{List, [], _∷_}
 use Prim.Native.Nat.{ℕ}
 use Rattle.checked.specs.Value.{limitOf, checkedOf}
 use Rattle.checked.specs.Paper.{dividedBy}
-use Rattle.layout.specs.Bytes.{bytesOf}
+use Rattle.little.specs.Bytes.{bytesOf}
 use Rattle.razovinto.specs.Entry.{sumsOf, returned, afterwards}
 
 -- eighteen bytes, each 9

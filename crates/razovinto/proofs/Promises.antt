@@ -15,8 +15,8 @@ use Rattle.whole.specs.logarithm.{log-of}
 use Rattle.checked.specs.declared.types.Checked64.the-variants.{Fits}
 use Rattle.checked.specs.Value.{limitOf, checkedOf}
 use Rattle.checked.specs.Paper.{Paper, given, refused, dividedBy, leftBy, powersOf, logOf}
-use Rattle.layout.specs.Bytes.{byteAt, part, little, bytesOf}
-use Rattle.layout.proofs.Little.{little-bytes}
+use Rattle.little.specs.Bytes.{byteAt, part, little, bytesOf}
+use Rattle.little.proofs.Little.{little-bytes}
 use Rattle.razovinto.specs.Entry.{sumsOf, productsOf, resultBytes, returned, afterwards}
 use Rattle.razovinto.proofs.Slices.{short-returns, roomy-returns, short-stays, refused-stays, answered-written, value-returns}
 

@@ -13,7 +13,7 @@ use Rattle.checked.specs.declared.types.Checked64.the-variants.{Fits, Overflowe
 use Rattle.checked.specs.Value.{Value}
 use Rattle.checked.specs.Paper.{Paper, given, refused, numberOf}
 use Rattle.checked.proofs.Unique.{not-zero}
-use Rattle.layout.specs.Bytes.{bytesOf}
+use Rattle.little.specs.Bytes.{bytesOf}
 use Rattle.razovinto.specs.Entry.{markBytes, resultBytes, returned, afterwards}
 
 -- ---- what is returned

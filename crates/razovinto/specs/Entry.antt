@@ -7,7 +7,7 @@ use lib.Dec.{eqb, ltb}
 use lib.ListN.{length, drop}
 use Rattle.checked.specs.Value.{checkedOf}
 use Rattle.checked.specs.Paper.{Paper, given}
-use Rattle.layout.specs.Bytes.{bytesOf}
+use Rattle.little.specs.Bytes.{bytesOf}
 
 -- ---- the answers that have no page of their own among the checked numbers
 

@@ -7,7 +7,7 @@ ghost use Prim.Native.Nat.{_≤_};
 ghost use lib.ListN.{length};
 ghost use lib.Seq.{sets};
 ghost use Rattle.checked.specs.Paper.{paper, given};
-ghost use Rattle.layout.specs.Bytes.{bytesOf};
+ghost use Rattle.little.specs.Bytes.{bytesOf};
 ghost use Rattle.razovinto.specs.Entry.{markBytes, returned, afterwards};
 
 // A number, its lowest byte first: written out byte by byte, it becomes one store.

@@ -1,7 +1,7 @@
 -- Whether the search ends at a block: it passes a quiet one, and ends at a bad one and at the first overflowed place of a sound one.
 -- Assumes nothing.
-use mathlib.Core.Path.{_≡_, ap, _∙_}
-use mathlib.Core.Bool.{true, false, not, _||_}
+use mathlib.Core.Path.{_≡_, ap, sym, _∙_}
+use mathlib.Core.Bool.{cond}
 use mathlib.Core.List.{List}
 use Prim.Native.Nat.{ℕ, _+_, _≤_, _<_}
 use native.Mathlib.Decide.{ℕ-discrete, decLt}
@@ -12,7 +12,7 @@ use lib.Dec.{ltb}
 use Rattle.places.proofs.First.{first-holds, none-before, first-is, first-none}
 use Rattle.layout.specs.Layout.{count, mark}
 use Rattle.layout.specs.Sound.{faultOf}
-use Rattle.search.specs.Search.{overflowedAt, firstOverflowed, OverflowsFirstAt, Quiet, ends}
+use Rattle.search.specs.Search.{overflowedAt, firstOverflowed, OverflowsFirstAt, Quiet, endOf}
 
 module _ (b : List ℕ) where
   -- ---- the first overflowed place
@@ -42,22 +42,26 @@ module _ (b : List ℕ) where
 
   -- ---- where the search ends
 
-  pub ends-at-bad : (faultOf b ≡ 0 → ⊥) → ends b ≡ true
-  unfolding ends
-  ends-at-bad n = ap (λ t. not t || ltb (firstOverflowed b) (count b)) (ne-eqb (faultOf b) 0 n)
+  ends-sound : faultOf b ≡ 0 → endOf b ≡ cond (ltb (firstOverflowed b) (count b)) 3 0
+  unfolding endOf
+  ends-sound z =
+      ap (λ t. cond t (cond (ltb (firstOverflowed b) (count b)) 3 0) (faultOf b)) (eq-eqb (faultOf b) 0 z)
 
-  pub ends-at-overflowed : (i : ℕ) → faultOf b ≡ 0 → OverflowsFirstAt b i → ends b ≡ true
-  unfolding ends
+  pub ends-at-bad : (faultOf b ≡ 0 → ⊥) → endOf b ≡ faultOf b
+  unfolding endOf
+  ends-at-bad n =
+      ap (λ t. cond t (cond (ltb (firstOverflowed b) (count b)) 3 0) (faultOf b)) (ne-eqb (faultOf b) 0 n)
+
+  pub ends-at-overflowed : (i : ℕ) → faultOf b ≡ 0 → OverflowsFirstAt b i → endOf b ≡ 3
   ends-at-overflowed i z f =
       let h = f .0 in
       let e = first-overflowed i f in
-      ap (λ t. not t || ltb (firstOverflowed b) (count b)) (eq-eqb (faultOf b) 0 z) ∙ lt-ltb (firstOverflowed b) (count b) (omega arith)
+      ends-sound z ∙ ap (λ t. cond t 3 0) (lt-ltb (firstOverflowed b) (count b) (omega arith))
 
-  pub passes-quiet : Quiet b → ends b ≡ false
-  unfolding ends
+  pub passes-quiet : Quiet b → endOf b ≡ 0
   passes-quiet (z, n) =
       let e = none-overflowed n in
-      ap (λ t. not t || ltb (firstOverflowed b) (count b)) (eq-eqb (faultOf b) 0 z) ∙ le-ltb (firstOverflowed b) (count b) (omega arith)
+      ends-sound z ∙ ap (λ t. cond t 3 0) (le-ltb (firstOverflowed b) (count b) (omega arith))
 
   -- ---- the three cases
 
@@ -75,4 +79,13 @@ module _ (b : List ℕ) where
               | yes h ↦ overflowed z (firstOverflowed b) (overflowed-place h)
               | no n ↦ quiet (z, no-place (omega arith))
             ]
+      ]
+
+  -- a block that the search passes is quiet
+  pub quiet-passed : endOf b ≡ 0 → Quiet b
+  quiet-passed e =
+      elim kind [
+        | quiet q ↦ q
+        | bad n ↦ absurd (n (sym (ends-at-bad n) ∙ e))
+        | overflowed z i f ↦ let o = ends-at-overflowed i z f in let a : ⊥ = omega arith in absurd a
       ]

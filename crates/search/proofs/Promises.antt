@@ -6,7 +6,8 @@ use mathlib.Core.Logic.{_↔_, _⊎_, inl, inr, ⊎-elim}
 use mathlib.Core.List.{List, []}
 use Prim.Native.Nat.{ℕ, _<_}
 use native.Mathlib.Omega.{arith}
-use Rattle.search.specs.Search.{refused, none, foundAt, blocks, Whole, QuietBefore, searchOf, BadBlock, OverflowedBlock}
+use Rattle.layout.specs.Runs.{blocks, Whole}
+use Rattle.search.specs.Search.{refused, none, foundAt, QuietBefore, searchOf, BadBlock, OverflowedBlock}
 use Rattle.search.proofs.Stages.{at-partial, at-bad, at-overflowed, at-none, partial, all-quiet, bad-block, overflowed-block, stage}
 
 module _ (run : List ℕ) where

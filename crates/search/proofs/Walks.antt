@@ -1,21 +1,26 @@
--- A run walked through block by block: the block that is taken, when it is passed, and what the answer is where the walk ends.
+-- A run walked through block by block: when a block is passed, and what the answer is where the walk ends.
 -- Assumes nothing.
 use mathlib.Core.Path.{_≡_, ap, sym, _∙_, subst}
 use mathlib.Core.Bool.{true}
 use mathlib.Core.List.{List}
-use Prim.Native.Nat.{ℕ, _+_, _-_, _*_, _≤_, _<_}
+use Prim.Native.Nat.{ℕ, _+_, _*_, _≤_, _<_}
 use native.Mathlib.Decide.{ℕ-discrete}
 use native.Mathlib.Omega.{arith}
 use lib.Dec.{eqb}
-use lib.ListN.{length, take, drop, length-take, length-drop}
+use lib.ListN.{length}
+use Rattle.places.specs.Faults.{NoFaultBefore}
 use Rattle.places.proofs.Every.{both-hold}
-use Rattle.layout.specs.Layout.{mark, zeros}
+use Rattle.little.specs.Zeros.{zeros}
+use Rattle.little.proofs.Zeros.{zeros-at}
+use Rattle.layout.specs.Editions.{blockLength, marksAt, one}
+use Rattle.layout.specs.Layout.{mark, editionOf}
 use Rattle.layout.specs.Sound.{faultOf}
-use Rattle.layout.proofs.Zeros.{zeros-at}
+use Rattle.layout.specs.Runs.{blocks, blockAt}
+use Rattle.layout.proofs.Layouts.{sound-sizes}
+use Rattle.layout.proofs.Runs.{whole-run, blocks-are}
 use Rattle.block.specs.Marks.{noMarks}
-use Rattle.block.proofs.Readings.{sound-sizes}
-use Rattle.search.specs.Search.{refused, none, foundAt, blocks, blockAt, searchOf, NoneBefore, OverflowsFirstAt, Quiet, Whole, QuietBefore}
-use Rattle.search.proofs.Stages.{at-bad, at-overflowed, at-none}
+use Rattle.search.specs.Search.{refused, none, foundAt, endAt, searchOf, NoneBefore, OverflowsFirstAt, Quiet}
+use Rattle.search.proofs.Stages.{quiet-before, at-bad, at-overflowed, at-none}
 
 -- ---- a block's places
 
@@ -33,45 +38,25 @@ none-before-more b i before here j h =
 pub no-marks-quiet : (b : List ℕ) → faultOf b ≡ 0 → noMarks b ≡ true → Quiet b
 unfolding noMarks
 no-marks-quiet b z m =
-    let n = both-hold (eqb (length b) 512) (zeros 448 503 b) m .1 in
-    let s = sound-sizes b z .1 in
-    (z, λ i h e. omega (arith, zeros-at 448 503 b n (448 + i) (omega arith) (omega arith)))
+    let n = both-hold (eqb (length b) blockLength) (zeros marksAt (one .past) b) m .1 in
+    let s = sound-sizes (editionOf b) b z .1 in
+    (z, λ i h e. omega (arith, zeros-at marksAt (one .past) b n (marksAt + i) (omega arith) (omega arith)))
 
-module _ (run : List ℕ) (n : ℕ) (whole : length run ≡ 512 * n) where
-  -- ---- the block at position p
+-- ---- the walk ended, with every block before position p passed
 
-  pub block-taken : (p : ℕ) → take (512 * p + 512 - 512 * p) (drop (512 * p) run) ≡ blockAt run p
-  block-taken p = let e : 512 * p + 512 - 512 * p ≡ 512 = omega arith in ap (λ k. take k (drop (512 * p) run)) e
+module _ (run : List ℕ) (n : ℕ) (whole : length run ≡ blockLength * n) (p : ℕ) (passed : NoFaultBefore (endAt run) p) where
+  abbrev there : p < n → p < blocks run
+  there h = omega (arith, blocks-are run n whole)
 
-  pub block-length : (p : ℕ) → p < n → length (blockAt run p) ≡ 512
-  block-length p h = omega (arith, length-take 512 (drop (512 * p) run), length-drop (512 * p) run)
-
-  -- ---- passed
-
-  pub quiet-none : QuietBefore run 0
-  quiet-none q h = absurd (omega arith)
-
-  pub quiet-more : (p : ℕ) → QuietBefore run p → Quiet (blockAt run p) → QuietBefore run (p + 1)
-  quiet-more p before here q h =
-      elim (ℕ-discrete p q) [
-        | yes e ↦ subst (λ q. Quiet (blockAt run q)) e here
-        | no d ↦ before q (omega arith)
-      ]
-
-  -- ---- ended
-
-  whole-run : Whole run
-  whole-run = omega arith
-
-  blocks-are : blocks run ≡ n
-  blocks-are = omega arith
-
-  pub bad-ends : (p c : ℕ) → p < n → QuietBefore run p → faultOf (blockAt run p) ≡ c → (c ≡ 0 → ⊥) → refused c p ≡ searchOf run
-  bad-ends p c h q f z = ap (λ c. refused c p) (sym f) ∙ sym (at-bad run p whole-run (omega (arith, blocks-are)) (λ e. z (sym f ∙ e)) q)
+  pub bad-ends : (c : ℕ) → p < n → faultOf (blockAt run p) ≡ c → (c ≡ 0 → ⊥) → refused c p ≡ searchOf run
+  bad-ends c h f z =
+      ap (λ c. refused c p) (sym f)
+      ∙ sym (at-bad run p (whole-run run n whole) (there h) (λ e. z (sym f ∙ e)) (quiet-before run p passed))
 
   pub found-ends
-      : (p i : ℕ) → p < n → QuietBefore run p → faultOf (blockAt run p) ≡ 0 → OverflowsFirstAt (blockAt run p) i → foundAt p i ≡ searchOf run
-  found-ends p i h q z f = sym (at-overflowed run p i whole-run (omega (arith, blocks-are)) z f q)
+      : (i : ℕ) → p < n → faultOf (blockAt run p) ≡ 0 → OverflowsFirstAt (blockAt run p) i → foundAt p i ≡ searchOf run
+  found-ends i h z f = sym (at-overflowed run p i (whole-run run n whole) (there h) z f (quiet-before run p passed))
 
-  pub none-ends : (p : ℕ) → n ≤ p → QuietBefore run p → none ≡ searchOf run
-  none-ends p h q = sym (at-none run whole-run (λ r k. q r (omega (arith, blocks-are))))
+  pub none-ends : n ≤ p → none ≡ searchOf run
+  none-ends h =
+      sym (at-none run (whole-run run n whole) (λ q k. quiet-before run p passed q (omega (arith, blocks-are run n whole))))

@@ -2,15 +2,17 @@
 -- first bad block reached.
 -- Assumes nothing.
 use mathlib.Core.Path.{_≡_}
-use mathlib.Core.Bool.{Bool, not, cond, _||_}
+use mathlib.Core.Bool.{Bool, cond}
 use mathlib.Core.List.{List}
-use Prim.Native.Nat.{ℕ, _*_, _/_, _%_, _<_}
+use Prim.Native.Nat.{ℕ, _%_, _<_}
 use lib.Dec.{eqb, ltb}
 use lib.ListN.{length}
 use Rattle.places.specs.Places.{first}
-use Rattle.layout.specs.Bytes.{part}
-use Rattle.layout.specs.Layout.{blockLength, count, mark}
+use Rattle.places.specs.Faults.{atFirstFault}
+use Rattle.layout.specs.Editions.{blockLength}
+use Rattle.layout.specs.Layout.{count, mark}
 use Rattle.layout.specs.Sound.{faultOf}
+use Rattle.layout.specs.Runs.{blocks, blockAt}
 
 -- a refusal's number and position; or 0, 0 and whether a value was found (1) or none (0), with its block's position and its place
 pub record Searched : Type 0 where
@@ -38,32 +40,26 @@ overflowedAt b i = eqb (mark b i) 1
 unfoldable pub firstOverflowed : List ℕ → ℕ
 firstOverflowed b = first (overflowedAt b) (count b)
 
--- the search ends at a block that is bad, or that is sound and has an overflowed value
-unfoldable pub ends : List ℕ → Bool
-ends b = not (eqb (faultOf b) 0) || ltb (firstOverflowed b) (count b)
+-- why the search ends at a block: its refusal's number, or 3 for an overflowed value in a sound one; 0 where it goes on
+unfoldable pub endOf : List ℕ → ℕ
+endOf b = cond (eqb (faultOf b) 0) (cond (ltb (firstOverflowed b) (count b)) 3 0) (faultOf b)
 
--- ---- a run
-
-abbrev pub blocks : List ℕ → ℕ
-blocks run = length run / blockLength
-
-abbrev pub blockAt : List ℕ → ℕ → List ℕ
-blockAt run p = part (blockLength * p) blockLength run
-
-abbrev pub endsAt : List ℕ → ℕ → Bool
-endsAt run p = ends (blockAt run p)
-
--- what the search answers where it ends at block p
+-- what it answers where it ends at block p
 abbrev pub endedAt : ℕ → List ℕ → Searched
 endedAt p b = cond (eqb (faultOf b) 0) (foundAt p (firstOverflowed b)) (refused (faultOf b) p)
 
--- the answer where p is the first block at which the search ends, or the count of blocks
-unfoldable pub answerAt : List ℕ → ℕ → Searched
-answerAt run p = cond (ltb p (blocks run)) (endedAt p (blockAt run p)) none
+-- ---- a run
+
+abbrev pub endAt : List ℕ → ℕ → ℕ
+endAt run p = endOf (blockAt run p)
+
+-- the answer at the first block at which the search ends, or none
+abbrev pub searchBlocks : List ℕ → Searched
+searchBlocks run = atFirstFault (endAt run) (blocks run) (λ c p. endedAt p (blockAt run p)) none
 
 -- 16 where the run isn't a multiple of 512
 unfoldable pub searchOf : List ℕ → Searched
-searchOf run = cond (eqb (length run % blockLength) 0) (answerAt run (first (endsAt run) (blocks run))) (refused 16 0)
+searchOf run = cond (eqb (length run % blockLength) 0) (searchBlocks run) (refused 16 0)
 
 -- ---- in the words of the promises
 
@@ -78,10 +74,6 @@ OverflowsFirstAt b i = (i < count b) × (mark b i ≡ 1) × NoneBefore b i
 -- a sound block with no overflowed place in use, which the search passes
 abbrev pub Quiet : List ℕ → Type 0
 Quiet b = (faultOf b ≡ 0) × NoneBefore b (count b)
-
--- the run has whole blocks only
-abbrev pub Whole : List ℕ → Type 0
-Whole run = length run % blockLength ≡ 0
 
 -- every block before the one at position p is quiet
 abbrev pub QuietBefore : List ℕ → ℕ → Type 0

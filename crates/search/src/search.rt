@@ -4,22 +4,25 @@ use block::sound::sound;
 use block::sound::unmarked;
 use block::types::Sound;
 use checked::refusal::Refusal;
+use layout::BLOCK_LENGTH;
+use layout::MARKS_AT;
 ghost use mathlib.Core.Path.{_≡_};
 ghost use Prim.Native.Nat.{_*_};
 ghost use lib.ListN.{length};
+ghost use Rattle.layout.specs.Editions.{blockLength};
 ghost use Rattle.search.specs.Search.{searchOf};
 ghost use Rattle.search.specs.Answers.{searched};
 
 // The blocks from the first on, and in each one its marks: the first mark that is set leaves both loops.
 fn among(run: &[u8], blocks: usize) -> Found
-    requires { ⌜ length (now run) ≡ 512 * blocks ⌝ }
+    requires { ⌜ length (now run) ≡ blockLength * blocks ⌝ }
     ensures { λ r. ⌜ searched r ≡ searchOf (now (run .entry)) ⌝ }
 {
     let mut position = 0;
     let mut place = 0;
     'search: while position < blocks {
-        let from = 512 * position;
-        let to = from + 512;
+        let from = BLOCK_LENGTH * position;
+        let to = from + BLOCK_LENGTH;
         let block = &run[from..to];
         match sound(block) {
             Sound::Refused(refusal) => return Found::Refused(refusal, position as u64),
@@ -29,7 +32,7 @@ fn among(run: &[u8], blocks: usize) -> Found
             let count = block[4] as usize;
             let mut i = 0;
             while i < count {
-                if block[448 + i] == 1 {
+                if block[MARKS_AT + i] == 1 {
                     place = i;
                     break 'search;
                 }
@@ -51,8 +54,8 @@ fn among(run: &[u8], blocks: usize) -> Found
 pub fn search(run: &[u8]) -> Found
     ensures { λ r. ⌜ searched r ≡ searchOf (now (run .entry)) ⌝ }
 {
-    if run.len() % 512 != 0 {
+    if run.len() % BLOCK_LENGTH != 0 {
         return Found::Refused(Refusal::BlockLength, 0);
     }
-    among(run, run.len() / 512)
+    among(run, run.len() / BLOCK_LENGTH)
 }

@@ -6,7 +6,7 @@ use lib.Seq.{sets}
 use Rattle.checked.specs.Paper.{Paper}
 use Rattle.recipe.specs.Run.{Shown}
 use Rattle.field.specs.Range.{Scanned}
-use Rattle.layout.specs.Sound.{Reading}
+use Rattle.layout.specs.Reading.{Reading}
 use Rattle.search.specs.Search.{Searched}
 
 abbrev pub ofAnswer : Paper → ℕ → List ℕ → List ℕ

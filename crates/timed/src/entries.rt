@@ -13,7 +13,7 @@ ghost use mathlib.Core.Path.{_≡_};
 ghost use Rattle.checked.specs.Paper.{given};
 ghost use Rattle.recipe.specs.Run.{answerOf, runOf};
 ghost use Rattle.field.specs.Range.{scanOf};
-ghost use Rattle.layout.specs.Sound.{readingOf, numbersAfter, marksAfter};
+ghost use Rattle.layout.specs.Reading.{readingOf, numbersAfter, marksAfter};
 ghost use Rattle.search.specs.Search.{searchOf};
 ghost use Rattle.timed.specs.Five.{ofAnswer, ofRun, ofScan, ofReading, ofSearch};
 

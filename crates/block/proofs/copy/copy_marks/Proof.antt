@@ -8,7 +8,7 @@ use lib.ListN.{length, length-set}
 use Rattle.places.specs.Places.{over}
 use Rattle.places.proofs.Tables.{over-none}
 use Rattle.layout.specs.Layout.{mark}
-use Rattle.block.proofs.Copies.{copy-turn, copy-end}
+use Rattle.places.proofs.Copies.{copy-turn, copy-end}
 use Rattle.block.proofs.copy.copy_marks.Statement.{statement}
 use Rattle.block.proofs.copy.copy_marks.Tie as tie
 

@@ -7,28 +7,28 @@ use borrow.Author.Needs.{needs}
 use lib.ListN.{length, length-set}
 use Rattle.places.specs.Places.{over}
 use Rattle.places.proofs.Tables.{over-none}
-use Rattle.layout.specs.Layout.{number}
-use Rattle.block.proofs.Copies.{copy-turn, copy-end}
+use Rattle.layout.specs.Layout.{numberFrom}
+use Rattle.places.proofs.Copies.{copy-turn, copy-end}
 use Rattle.block.proofs.copy.copy_numbers.Statement.{statement}
 use Rattle.block.proofs.copy.copy_numbers.Tie as tie
 
 abbrev Inv-loop : tie.InvT-loop
-Inv-loop b count numbers₀ i₀ numbers i = (numbers ≡ over (number b) i numbers₀) × (length numbers ≡ length numbers₀) × (i ≤ count)
+Inv-loop b first count numbers₀ i₀ numbers i = (numbers ≡ over (numberFrom first b) i numbers₀) × (length numbers ≡ length numbers₀) × (i ≤ count)
 
 abbrev μ-loop : tie.MeasureT-loop
-μ-loop b count numbers₀ i₀ numbers i = count - i
+μ-loop b first count numbers₀ i₀ numbers i = count - i
 
 loop-holds : tie.Need-loop-holds Inv-loop μ-loop
-loop-holds c = (sym (over-none (number (c .before .before .args .b .now)) (c .before .before .args .numbers .now)), refl, omega arith)
+loop-holds c = (sym (over-none (numberFrom (c .before .before .args .first) (c .before .before .args .b .now)) (c .before .before .args .numbers .now)), refl, omega arith)
 
-mul-long : tie.Need-mul-long Inv-loop μ-loop
-mul-long c = search needs
+mul-long-at : tie.Need-mul-long-at Inv-loop μ-loop
+mul-long-at c = search needs
 
-add-long : tie.Need-add-long Inv-loop μ-loop
-add-long c = search needs
+add-long-at : tie.Need-add-long-at Inv-loop μ-loop
+add-long-at c = search needs
 
-long-requires : tie.Need-long-requires Inv-loop μ-loop
-long-requires c κs = search needs
+long-at-requires : tie.Need-long-at-requires Inv-loop μ-loop
+long-at-requires c κs = search needs
 
 mul-numbers : tie.Need-mul-numbers Inv-loop μ-loop
 mul-numbers c = search needs
@@ -43,11 +43,11 @@ loop-less : tie.Need-loop-less Inv-loop μ-loop
 loop-less c = search needs
 
 loop-again : tie.Need-loop-again Inv-loop μ-loop
-unfolding number
+unfolding numberFrom
 loop-again c =
     let g = c .before .before .before .before .before .args in
     let l = c .before .before .loop in (
-      copy-turn (number (g .b .now)) (g .numbers .now) (l .numbers) (l .i) (l .inv .0) (c .long .result) (c .long .ensures) (omega arith),
+      copy-turn (numberFrom (g .first) (g .b .now)) (g .numbers .now) (l .numbers) (l .i) (l .inv .0) (c .long-at .result) (c .long-at .ensures) (omega arith),
       simp length-set (l .inv .1),
       omega arith,
     )
@@ -59,7 +59,7 @@ returns : tie.Need-returns Inv-loop μ-loop
 returns c =
     let g = c .before .before .before .before .args in
     let l = c .before .loop in
-    copy-end (number (g .b .now)) (g .numbers .now) (l .numbers) (l .i) (l .inv .0) (g .count) (omega arith)
+    copy-end (numberFrom (g .first) (g .b .now)) (g .numbers .now) (l .numbers) (l .i) (l .inv .0) (g .count) (omega arith)
 
 pub copy-numbers-spec : {M : Type 1} → statement M
 copy-numbers-spec =
@@ -68,9 +68,9 @@ copy-numbers-spec =
     Inv-loop
     μ-loop
     loop-holds
-    mul-long
-    add-long
-    long-requires
+    mul-long-at
+    add-long-at
+    long-at-requires
     mul-numbers
     slice-write-numbers
     add-i

@@ -5,6 +5,7 @@ use borrow.Author.Needs.{needs}
 use borrow.Author.Tests.{eqb-false}
 use Rattle.checked.specs.Paper.{numberOf}
 use Rattle.checked.proofs.Unique.{not-zero}
+use Rattle.layout.specs.Layout.{editionOf}
 use Rattle.layout.specs.Sound.{faultOf}
 use Rattle.layout.proofs.Faults.{read-fault}
 use Rattle.block.specs.Answers.{fault}
@@ -41,7 +42,7 @@ returns-2 c =
     let r = c .before .refusal .given .0 .0 in
     let f : faultOf (a .block .now) ≡ numberOf r = sym (d .sound .ensures) ∙ ap fault (c .before .refusal .given .1) in
     let n : numberOf r ≡ 0 → ⊥ = eqb-false (numberOf r) 0 (not-zero r) in
-    refused-so (a .block .now) (a .numbers .now) (a .marks .now) (numberOf r) (read-fault (a .block .now) (a .numbers .now) (a .marks .now) (λ z. n (sym f ∙ z)) ∙ f) n
+    refused-so (editionOf (a .block .now)) (a .block .now) (a .numbers .now) (a .marks .now) (numberOf r) (read-fault (editionOf (a .block .now)) (a .block .now) (a .numbers .now) (a .marks .now) (λ z. n (sym f ∙ z)) ∙ f) n
 
 pub read-spec : {M : Type 1} → statement M
 read-spec = tie.close (tie.spec sound-requires enum-told values-requires enum-known-refusal same-length same-length-2 returns returns-2)

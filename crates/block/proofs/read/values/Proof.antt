@@ -5,11 +5,13 @@ use mathlib.Core.List.{List}
 use Prim.Native.Nat.{ℕ}
 use native.Mathlib.Omega.{arith}
 use borrow.Author.Needs.{needs}
-use Rattle.layout.specs.Bytes.{part, little}
+use Rattle.little.specs.Bytes.{part, little}
+use Rattle.layout.specs.Editions.{one}
 use Rattle.layout.specs.Layout.{blockNumber, count}
-use Rattle.layout.specs.Sound.{given}
+use Rattle.layout.specs.Reading.{given}
 use Rattle.layout.proofs.Faults.{numbers-short, marks-short, read-sound}
-use Rattle.block.proofs.Readings.{sound-sizes, refused-so, given-so}
+use Rattle.layout.proofs.Layouts.{sound-sizes}
+use Rattle.block.proofs.Readings.{refused-so, given-so}
 use Rattle.block.proofs.read.values.Statement.{statement}
 use Rattle.block.proofs.read.values.Tie as tie
 
@@ -20,7 +22,7 @@ number-read b = refl
 
 shared-slice-read-count : tie.Need-shared-slice-read-count
 shared-slice-read-count c =
-    let s = sound-sizes (c .before .before .before .before .args .block .now) (c .before .before .before .before .pre) in omega (arith, s)
+    let s = sound-sizes one (c .before .before .before .before .args .block .now) (c .before .before .before .before .pre) in omega (arith, s)
 
 cast-count : tie.Need-cast-count
 cast-count c = omega (arith, c .shared-slice-known2 .given 4)
@@ -29,32 +31,32 @@ returns : tie.Need-returns
 returns c =
     let s = c .before .before .before .before .before in
     let a = s .args in
-    refused-so (a .block .now) (a .numbers .now) (a .marks .now) 19 (numbers-short (a .block .now) (a .numbers .now) (a .marks .now) (s .pre) (c .if1 .taken)) (λ e. omega arith)
+    refused-so one (a .block .now) (a .numbers .now) (a .marks .now) 19 (numbers-short one (a .block .now) (a .numbers .now) (a .marks .now) (s .pre) (c .if1 .taken)) (λ e. omega arith)
 
 returns-2 : tie.Need-returns-2
 returns-2 c =
     let s = c .before .before .before .before .before .before in
     let a = s .args in
-    refused-so (a .block .now) (a .numbers .now) (a .marks .now) 19 (marks-short (a .block .now) (a .numbers .now) (a .marks .now) (s .pre) (c .before .if1 .left) (c .if2 .taken)) (λ e. omega arith)
+    refused-so one (a .block .now) (a .numbers .now) (a .marks .now) 19 (marks-short one (a .block .now) (a .numbers .now) (a .marks .now) (s .pre) (c .before .if1 .left) (c .if2 .taken)) (λ e. omega arith)
 
 copy-numbers-requires : tie.Need-copy-numbers-requires
 copy-numbers-requires c κs =
     let s = c .before .before .before .before .before .before .before in
-    let z = sound-sizes (s .args .block .now) (s .pre) in
+    let z = sound-sizes one (s .args .block .now) (s .pre) in
     let room = c .before .before .if1 .left in
     (z .0, omega arith, omega arith)
 
 copy-marks-requires : tie.Need-copy-marks-requires
 copy-marks-requires c κs =
     let s = c .before .before .before .before .before .before .before .before .before .before .before in
-    let z = sound-sizes (s .args .block .now) (s .pre) in
+    let z = sound-sizes one (s .args .block .now) (s .pre) in
     let room = c .before .before .before .before .before .if2 .left in
     (z .0, omega arith, omega arith)
 
-word-requires : tie.Need-word-requires
-word-requires c κs =
+word-at-requires : tie.Need-word-at-requires
+word-at-requires c κs =
     let s = c .before .before .before .before .before .before .before .before .before .before .before .before .before .before in
-    let z = sound-sizes (s .args .block .now) (s .pre) in omega (arith, z .0)
+    let z = sound-sizes one (s .args .block .now) (s .pre) in omega (arith, z .0)
 
 same-length : tie.Need-same-length
 same-length c = search needs
@@ -68,8 +70,8 @@ returns-3 c =
     let s = e .before .before .before .before .before .before in
     let a = s .args in
     let b = a .block .now in
-    let r = given-so b (a .numbers .now) (a .marks .now) (read-sound b (a .numbers .now) (a .marks .now) (s .pre) (e .before .if1 .left) (e .if2 .left)) in
-    (ap (λ n. given n (count b)) (c .word .ensures ∙ number-read b) ∙ r .0, (c .before .before .before .before .before .before .before .copy-numbers .ensures ∙ r .1 .0, c .before .before .before .copy-marks .ensures ∙ r .1 .1))
+    let r = given-so one b (a .numbers .now) (a .marks .now) (read-sound one b (a .numbers .now) (a .marks .now) (s .pre) (e .before .if1 .left) (e .if2 .left)) in
+    (ap (λ n. given n (count b)) (c .word-at .ensures ∙ number-read b) ∙ r .0, (c .before .before .before .before .before .before .before .copy-numbers .ensures ∙ r .1 .0, c .before .before .before .copy-marks .ensures ∙ r .1 .1))
 
 pub values-spec : {M : Type 1} → statement M
-values-spec = tie.close (tie.spec shared-slice-read-count cast-count returns returns-2 copy-numbers-requires copy-marks-requires word-requires same-length same-length-2 returns-3)
+values-spec = tie.close (tie.spec shared-slice-read-count cast-count returns returns-2 copy-numbers-requires copy-marks-requires word-at-requires same-length same-length-2 returns-3)

@@ -2,7 +2,7 @@
 -- Assumes nothing.
 use mathlib.Core.Path.{refl}
 use lib.ListN.{length-set}
-use Rattle.layout.specs.Bytes.{bytesOf}
+use Rattle.little.specs.Bytes.{bytesOf}
 use native.Mathlib.Omega.{arith}
 use borrow.Author.Needs.{needs}
 use Rattle.razovinto.proofs.result.put_number.Statement.{statement}

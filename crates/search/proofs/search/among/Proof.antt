@@ -11,12 +11,18 @@ use borrow.Author.Tests.{eqb-false, not-false}
 use lib.ListN.{length, getD, take, drop}
 use Rattle.checked.specs.Paper.{numberOf}
 use Rattle.checked.proofs.Unique.{not-zero}
-use Rattle.layout.specs.Layout.{count}
+use Rattle.places.specs.Faults.{NoFaultBefore}
+use Rattle.places.proofs.Faults.{no-fault-before-0, no-fault-before-more}
+use Rattle.layout.specs.Editions.{blockLength}
+use Rattle.layout.specs.Layout.{count, editionOf}
 use Rattle.layout.specs.Sound.{faultOf}
+use Rattle.layout.specs.Runs.{blockAt}
+use Rattle.layout.proofs.Layouts.{sound-sizes}
+use Rattle.layout.proofs.Runs.{block-taken, block-length}
 use Rattle.block.specs.Answers.{fault}
-use Rattle.block.proofs.Readings.{sound-sizes}
-use Rattle.search.specs.Search.{blockAt, foundAt, Quiet, QuietBefore, NoneBefore, OverflowsFirstAt}
-use Rattle.search.proofs.Walks.{none-before-0, none-before-more, no-marks-quiet, block-taken, block-length, quiet-none, quiet-more, bad-ends, found-ends, none-ends}
+use Rattle.search.specs.Search.{foundAt, endAt, Quiet, NoneBefore, OverflowsFirstAt}
+use Rattle.search.proofs.Walks.{none-before-0, none-before-more, no-marks-quiet, bad-ends, found-ends, none-ends}
+use Rattle.search.proofs.Ends.{passes-quiet}
 use Rattle.search.proofs.search.among.Statement.{statement}
 use Rattle.search.proofs.search.among.Tie as tie
 
@@ -27,7 +33,7 @@ abbrev μ-loop : tie.MeasureT-loop
 μ-loop run blocks position place₀ from to block count i₀ place i = count - i
 
 abbrev Inv-search : tie.InvT-search
-Inv-search run blocks position₀ place₀ position place = QuietBefore run position × (position ≤ blocks)
+Inv-search run blocks position₀ place₀ position place = NoFaultBefore (endAt run) position × (position ≤ blocks)
 
 abbrev μ-search : tie.MeasureT-search
 μ-search run blocks position₀ place₀ position place = blocks - position
@@ -45,20 +51,20 @@ module _ (d : tie.In-search Inv-loop μ-loop Inv-search μ-search) where
   position = d .before .search .position
 
   abbrev block : List ℕ
-  block = take (512 * position + 512 - 512 * position) (drop (512 * position) run)
+  block = take (blockLength * position + blockLength - blockLength * position) (drop (blockLength * position) run)
 
   same : block ≡ blockAt run position
-  same = block-taken run blocks (d .before .before .before .pre) position
+  same = block-taken run position
 
-  block-512 : length block ≡ 512
-  block-512 = ap length same ∙ block-length run blocks (d .before .before .before .pre) position (d .search-test .taken)
+  block-whole : length block ≡ blockLength
+  block-whole = ap length same ∙ block-length run blocks (d .before .before .before .pre) position (d .search-test .taken)
 
 -- it is sound, and has at most 55 values
 sound-here : (c : tie.After-enum-told Inv-loop μ-loop Inv-search μ-search) → faultOf (block (c .before .before .before .before)) ≡ 0
 sound-here c = sym (c .before .before .sound .ensures) ∙ ap fault (c .enum-told .given .1)
 
 count-here : (c : tie.After-enum-told Inv-loop μ-loop Inv-search μ-search) → getD (block (c .before .before .before .before)) 4 0 ≤ 55
-count-here c = sound-sizes (block (c .before .before .before .before)) (sound-here c) .1
+count-here c = sound-sizes (editionOf (block (c .before .before .before .before))) (block (c .before .before .before .before)) (sound-here c) .1
 
 -- it is passed where the walk goes on
 passed : (c : tie.Joined1 Inv-loop μ-loop Inv-search μ-search) → Quiet (blockAt (run (c .before .before .before .before .before .before)) (position (c .before .before .before .before .before .before)))
@@ -73,7 +79,7 @@ passed c =
     (c .if1 .came))
 
 search-holds : tie.Need-search-holds Inv-loop μ-loop Inv-search μ-search
-search-holds c = (quiet-none (c .before .args .run .now) (c .before .args .blocks) (c .before .pre), omega arith)
+search-holds c = (no-fault-before-0 (endAt (c .before .args .run .now)), omega arith)
 
 mul-from : tie.Need-mul-from Inv-loop μ-loop Inv-search μ-search
 mul-from c = omega arith
@@ -101,7 +107,8 @@ returns c =
     let d = c .before .before .before .before .before in
     let r = c .before .refusal .given .0 .0 in
     let f : faultOf (block d) ≡ numberOf r = sym (c .before .before .before .sound .ensures) ∙ ap fault (c .before .refusal .given .1) in
-    bad-ends (run d) (blocks d) (d .before .before .before .pre) (position d) (numberOf r) (d .search-test .taken) (d .before .search .inv .0) (ap faultOf (sym (same d)) ∙ f) (eqb-false (numberOf r) 0 (not-zero r))
+    bad-ends (run d) (blocks d) (d .before .before .before .pre) (position d) (d .before .search .inv .0) (numberOf r)
+    (d .search-test .taken) (ap faultOf (sym (same d)) ∙ f) (eqb-false (numberOf r) 0 (not-zero r))
 
 enum-told : tie.Need-enum-told Inv-loop μ-loop Inv-search μ-search
 enum-told c = search needs
@@ -110,7 +117,7 @@ unmarked-requires : tie.Need-unmarked-requires Inv-loop μ-loop Inv-search μ-se
 unmarked-requires c κs = search needs
 
 shared-slice-read-count : tie.Need-shared-slice-read-count Inv-loop μ-loop Inv-search μ-search
-shared-slice-read-count c = omega (arith, block-512 (c .before .before .before .before .before .before .before))
+shared-slice-read-count c = omega (arith, block-whole (c .before .before .before .before .before .before .before))
 
 cast-count : tie.Need-cast-count Inv-loop μ-loop Inv-search μ-search
 cast-count c = omega (arith, c .shared-slice-known2 .given 4)
@@ -122,7 +129,7 @@ add-if2 : tie.Need-add-if2 Inv-loop μ-loop Inv-search μ-search
 add-if2 c = omega (arith, count-here (c .before .before .before .before .before))
 
 shared-slice-read-if2 : tie.Need-shared-slice-read-if2 Inv-loop μ-loop Inv-search μ-search
-shared-slice-read-if2 c = omega (arith, count-here (c .before .before .before .before .before .before), block-512 (c .before .before .before .before .before .before .before .before .before .before))
+shared-slice-read-if2 c = omega (arith, count-here (c .before .before .before .before .before .before), block-whole (c .before .before .before .before .before .before .before .before .before .before))
 
 add-i : tie.Need-add-i Inv-loop μ-loop Inv-search μ-search
 add-i c = omega (arith, count-here (c .before .before .before .before .before .before .before))
@@ -144,7 +151,7 @@ search-less c = omega arith
 search-again : tie.Need-search-again Inv-loop μ-loop Inv-search μ-search
 search-again c =
     let d = c .before .before .before .before .before .before in
-    (quiet-more (run d) (blocks d) (d .before .before .before .pre) (position d) (d .before .search .inv .0) (passed c), omega arith)
+    (no-fault-before-more (endAt (run d)) (position d) (d .before .search .inv .0) (passes-quiet (blockAt (run d) (position d)) (passed c)), omega arith)
 
 returns-2 : tie.Need-returns-2 Inv-loop μ-loop Inv-search μ-search
 returns-2 c =
@@ -157,14 +164,16 @@ returns-2 c =
     record { before = record { before = record { before = record { before = d; block = w .1 }; sound = w .2 }; match = w .3 }; enum-told = w .4 } in
     let f : OverflowsFirstAt (block d) (w .8 .i) = (w .9 .taken, w .11 .taken, w .8 .inv .0) in
     ap (foundAt (position d)) (w .12)
-    ∙ found-ends (run d) (blocks d) (s .before .before .pre) (position d) (w .8 .i) (w .0 .taken) (s .search .inv .0) (ap faultOf (sym (same d)) ∙ sound-here t) (subst (λ b. OverflowsFirstAt b (w .8 .i)) (same d) f))
+    ∙ found-ends (run d) (blocks d) (s .before .before .pre) (position d) (s .search .inv .0) (w .8 .i) (w .0 .taken)
+    (ap faultOf (sym (same d)) ∙ sound-here t) (subst (λ b. OverflowsFirstAt b (w .8 .i)) (same d) f))
     (c .before .search-test .came)
 
 returns-3 : tie.Need-returns-3 Inv-loop μ-loop Inv-search μ-search
 returns-3 c =
     let s = c .before .before in
     ⊎-elim
-    (λ w. none-ends (s .before .before .args .run .now) (s .before .before .args .blocks) (s .before .before .pre) (s .search .position) (w .0 .left) (s .search .inv .0))
+    (λ w. none-ends (s .before .before .args .run .now) (s .before .before .args .blocks) (s .before .before .pre)
+    (s .search .position) (s .search .inv .0) (w .0 .left))
     (λ w. absurd (omega (arith, w .0 .taken, c .if3 .left)))
     (c .before .search-test .came)
 

@@ -1,0 +1,2 @@
+// The sum that a block's check is to be: `sum::check_sum`.
+pub mod sum;

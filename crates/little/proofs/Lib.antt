@@ -1,0 +1,8 @@
+-- Laws on numbers as bytes: `Little` there and back, `Listed` bytes given one by one, `Zeros` and `Joined` on bytes that are zero,
+-- `Changed` on one byte changed. `Promises` says what the functions promise.
+pub mod Little
+pub mod Listed
+pub mod Zeros
+pub mod Joined
+pub mod Changed
+pub mod Promises

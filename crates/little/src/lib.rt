@@ -1,0 +1,2 @@
+// Numbers as bytes, the lowest first: `bytes` has functions both ways.
+pub mod bytes;
