@@ -1,10 +1,17 @@
 #!/usr/bin/env python3
-"""Sees that every public function asks nothing, promises something and has its row in docs/ENTRIES.md.
+"""Sees that every public function asks nothing, promises something and has its row in docs/ENTRIES.md, and that no
+theorem is named on the pages that isn't there.
 
     check.py
 
 A function is written `crate::module::name`, a method `crate::Type::name`. Every must-fail edit of the crates
 must be named on the page too, and every edit that the page names must be there.
+
+A theorem is named on README.md, docs/ENTRIES.md and docs/DECISIONS.md in backquotes, as lowercase words joined by
+dashes, `count-bounded`; or with its page before it, `Closed.log-equation`, as a name of one word always is. It must be
+declared in the crates' proofs or specs, and where its page is named, on a page of that name. Where a row of a table
+ends with a page of a crate, `recipe.Promises`, the names in the cell before it must stand there, or come there by
+`pub use`.
 It prints what is wrong, a line each, and then exits 1.
 """
 import glob
@@ -15,12 +22,22 @@ import sys
 TOP = os.path.dirname(os.path.dirname(os.path.dirname(os.path.abspath(__file__))))
 FUNCTION = re.compile(r'^(\s*)(?:#\[[^\]]*\]\s*)?pub (?:extern "C" )?fn ([A-Za-z_0-9]+)')
 METHODS_OF = re.compile(r"^impl ([A-Za-z_0-9]+) \{")
+NAMING = ("README.md", "docs/ENTRIES.md", "docs/DECISIONS.md")
+DASHED = r"[a-z0-9^]+(?:-[a-z0-9^]+)+"
+THEOREM = re.compile(rf"`({DASHED}|[A-Z][A-Za-z]*\.(?!antt`)[a-z0-9^-]+)`")
+ON_PAGE = re.compile(r"\|([^|]*)\|\s*`([a-z_0-9]+)\.([A-Z][A-Za-z]*)`\s*\|\s*$")
+DECLARED = re.compile(r"^\s*(?:unfoldable |abbrev )*(?:pub )?([a-z0-9^][^\s:(){}]*)\s*:", re.M)
+BROUGHT = re.compile(r"^pub use \S+\.\{([^}]*)\}", re.M)
+
+
+def read(*path):
+    with open(os.path.join(TOP, *path), encoding="utf-8") as f:
+        return f.read()
 
 
 def public_functions(path):
     """The public functions of a file, each with the type it is a method of and the words of its contract."""
-    with open(path, encoding="utf-8") as f:
-        rows = f.read().split("\n")
+    rows = read(path).split("\n")
     owner = None
     for i, row in enumerate(rows):
         methods = METHODS_OF.match(row)
@@ -38,9 +55,8 @@ def public_functions(path):
             yield owner, function.group(2), set(re.findall(r"^\s*(requires|ensures)\b", "\n".join(head), re.M))
 
 
-def main():
-    with open(os.path.join(TOP, "docs", "ENTRIES.md"), encoding="utf-8") as f:
-        named = set(re.findall(r"`([^`\s]+)`", f.read()))
+def function_faults(named):
+    """What is wrong with public functions, and how many there are."""
     faults, count = [], 0
     for path in sorted(glob.glob(os.path.join(TOP, "crates", "*", "src", "**", "*.rt"), recursive=True)):
         inside = os.path.relpath(path, os.path.join(TOP, "crates")).split(os.sep)
@@ -57,18 +73,86 @@ def main():
                 faults.append(f"{full} promises nothing")
             if full not in named:
                 faults.append(f"{full} has no row in docs/ENTRIES.md")
+    return faults, count
+
+
+def edit_faults(named):
+    """Which must-fail edits aren't named, or aren't there; and how many there are."""
     edits = {
         "/".join((os.path.relpath(e, os.path.join(TOP, "crates")).split(os.sep)[0], os.path.basename(e)[: -len(".edit")]))
         for e in glob.glob(os.path.join(TOP, "crates", "*", "must-fail", "*.edit"))
     }
     said = {n for n in named if re.fullmatch(r"[a-z_0-9]+/[a-z_0-9]+", n)}
-    faults += [f"the edit {e} is not named in docs/ENTRIES.md" for e in sorted(edits - said)]
+    faults = [f"the edit {e} is not named in docs/ENTRIES.md" for e in sorted(edits - said)]
     faults += [f"docs/ENTRIES.md names the edit {e}, which is not there" for e in sorted(said - edits)]
+    return faults, len(edits)
+
+
+def declarations():
+    """The names that each page of each crate declares, and those that it brings from other pages."""
+    pages = {}
+    for path in glob.glob(os.path.join(TOP, "crates", "*", "*", "**", "*.antt"), recursive=True):
+        inside = os.path.relpath(path, os.path.join(TOP, "crates")).split(os.sep)
+        if inside[1] in ("proofs", "specs"):
+            text = read(path)
+            page = pages.setdefault((inside[0], os.path.splitext(inside[-1])[0]), (set(), set()))
+            page[0].update(DECLARED.findall(text))
+            page[1].update(name.strip() for names in BROUGHT.findall(text) for name in names.split(","))
+    return pages
+
+
+def theorem_faults(texts, pages):
+    """Which names of theorems on the pages don't stand where they should, and how many names there are."""
+    faults, seen = [], set()
+    everywhere = set().union(*(declared for declared, _ in pages.values()))
+    for file, text in texts.items():
+        for number, line in enumerate(text.split("\n"), 1):
+            for name in THEOREM.findall(line):
+                seen.add(name)
+                page, _, last = name.rpartition(".")
+                there = everywhere if not page else set().union(*(d for (_, p), (d, _) in pages.items() if p == page))
+                if last not in there:
+                    faults.append(f"{file}, line {number}: `{name}` stands nowhere in the crates' proofs or specs")
+            row = ON_PAGE.search(line)
+            if row:
+                cell, crate, page = row.groups()
+                declared, brought = pages.get((crate, page), (set(), set()))
+                for name in THEOREM.findall(cell):
+                    if name not in declared | brought:
+                        faults.append(f"{file}, line {number}: `{name}` isn't on the page {page} of {crate}")
+    return faults, len(seen)
+
+
+def page_of(row):
+    return "`{}.{}`".format(*ON_PAGE.search(row).groups()[1:])
+
+
+def tried(texts, pages):
+    """The check must see a theorem that stands nowhere, on each page, and one that stands on another page."""
+    for file, text in texts.items():
+        name = THEOREM.search(text).group(0)
+        if not theorem_faults({file: text.replace(name, name[:-1] + "x`")}, pages)[0]:
+            return False
+    rows = [row for row in texts["README.md"].split("\n") if ON_PAGE.search(row)]
+    moved = rows[0].replace(page_of(rows[0]), page_of(rows[-1]))
+    return bool(theorem_faults({"README.md": moved}, pages)[0])
+
+
+def main():
+    named = set(re.findall(r"`([^`\s]+)`", read("docs", "ENTRIES.md")))
+    faults, functions = function_faults(named)
+    more, edits = edit_faults(named)
+    texts, pages = {file: read(file) for file in NAMING}, declarations()
+    wrong, theorems = theorem_faults(texts, pages)
+    faults += more + wrong
+    if not faults and not tried(texts, pages):
+        faults.append("tests/entries/check.py: a damaged page passes")
     for fault in faults:
         print(f"entries: {fault}", file=sys.stderr)
     if faults:
         sys.exit(1)
-    print(f"entries: {count} public functions, each with a promise and a row; {len(edits)} must-fail edits, each named")
+    print(f"entries: {functions} public functions, each with a promise and a row; {edits} must-fail edits, each named")
+    print(f"entries: {theorems} theorems named on the pages, each found")
 
 
 if __name__ == "__main__":

@@ -1,6 +1,7 @@
 // razo: the tool for operators at a terminal, over the library. It looks into files of blocks and runs recipes.
 mod file;
 mod help;
+mod lists;
 mod read_command;
 mod reason;
 mod run_command;
@@ -11,6 +12,7 @@ mod words;
 
 use crate::file::open;
 use crate::help::help;
+use crate::lists::number_of;
 use crate::read_command::read_parts;
 use crate::run_command::run_command;
 use crate::search_command::search_parts;
@@ -18,7 +20,6 @@ use crate::text::complain;
 use crate::text::complain_too_long;
 use crate::text::fail;
 use crate::text::first;
-use crate::text::same;
 use libc::STDERR_FILENO;
 use libc::STDOUT_FILENO;
 
@@ -45,9 +46,9 @@ fn go_through(command: Command, name: &[u8]) {
 fn on_file(command: Command, said: &[u8]) {
     if os::arg_count() != 3 {
         complain(
-            b"",
+            b"razo: '",
             said,
-            b" takes one FILE: a name, or '-' for standard input",
+            b"' takes one FILE: a name, or '-' for standard input\n",
         );
         return;
     }
@@ -60,27 +61,17 @@ fn on_file(command: Command, said: &[u8]) {
     go_through(command, &name[..length]);
 }
 
-fn asks_for_help(said: &[u8]) -> bool {
-    if same(said, b"--help") {
-        return true;
-    }
-    if same(said, b"-h") {
-        return true;
-    }
-    same(said, b"help")
-}
-
 fn obey(said: &[u8]) {
-    if same(said, b"search") {
-        on_file(Command::Search, said);
-    } else if same(said, b"read") {
-        on_file(Command::Read, said);
-    } else if same(said, b"run") {
-        run_command();
-    } else if asks_for_help(said) {
-        help(STDOUT_FILENO);
-    } else {
-        complain(b"", said, b" is no command: 'razo --help' lists them");
+    match number_of(said, 6, b"search\nread\nrun\n--help\n-h\nhelp\n") {
+        1 => on_file(Command::Search, said),
+        2 => on_file(Command::Read, said),
+        3 => run_command(),
+        4..=6 => help(STDOUT_FILENO),
+        _ => complain(
+            b"razo: '",
+            said,
+            b"' is no command: 'razo --help' lists them\n",
+        ),
     }
 }
 
@@ -93,7 +84,7 @@ fn main() {
     let said: &mut [u8] = &mut space;
     let length = os::arg(1, said);
     if os::errno() != 0 {
-        complain_too_long(b"", said);
+        complain_too_long(b"razo: '", said);
         return;
     }
     obey(first(said, length));

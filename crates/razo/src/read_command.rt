@@ -7,14 +7,13 @@ use crate::reason::reason;
 use crate::text::count_set;
 use crate::text::fail;
 use crate::text::first;
-use crate::text::put_blocks;
+use crate::text::say;
 use crate::text::write_out;
 use block::read::read;
 use block::types::Read;
 use checked::refusal::Refusal;
 use field::scan::scan;
 use field::types::Scan;
-use lines::put::number;
 use lines::put::word;
 
 // How many blocks were read, how many of them are bad, and how many have overflowed values.
@@ -52,23 +51,33 @@ fn put_number(line: &mut [u8], at: usize, width: usize, n: u64) -> usize {
     put_column(line, at, width, &digits[..count])
 }
 
+// Numbers, each in its column.
+fn put_columns(line: &mut [u8], from: usize, widths: &[usize], numbers: &[u64]) -> usize {
+    let mut at = from;
+    let mut i = 0;
+    while i < numbers.len() {
+        if widths.len() <= i {
+            return at;
+        }
+        at = put_number(line, at, widths[i], numbers[i]);
+        i = i + 1;
+    }
+    at
+}
+
 // Least, greatest and packing width. A scan never passes over an overflowed place, and an empty field has no range.
-fn put_range(line: &mut [u8], from: usize, numbers: &[u64], marks: &[u8]) -> usize {
+fn put_range(line: &mut [u8], at: usize, numbers: &[u64], marks: &[u8]) -> usize {
     match scan(numbers, marks) {
         Scan::Ranged {
             least,
             greatest,
             width,
-        } => {
-            let mut at = put_number(line, from, 22, least);
-            at = put_number(line, at, 22, greatest);
-            put_number(line, at, 7, width)
-        }
-        Scan::Refused(_, _) => {
-            let mut at = put_column(line, from, 22, b"-");
-            at = put_column(line, at, 22, b"-");
-            put_column(line, at, 7, b"-")
-        }
+        } => put_columns(line, at, &[22, 22, 7], &[least, greatest, width]),
+        Scan::Refused(_, _) => word(
+            line,
+            at,
+            b"                     -                     -      -",
+        ),
     }
 }
 
@@ -91,10 +100,12 @@ fn list_good(
 ) -> Listed {
     let tally = listed.tally;
     let overflowed = count_set(marks);
-    let mut at = put_number(lines, listed.at, 10, tally.blocks);
-    at = put_number(lines, at, 12, number as u64);
-    at = put_number(lines, at, 7, marks.len() as u64);
-    at = put_number(lines, at, 12, overflowed);
+    let mut at = put_columns(
+        lines,
+        listed.at,
+        &[10, 12, 7, 12],
+        &[tally.blocks, number as u64, marks.len() as u64, overflowed],
+    );
     at = put_range(lines, at, numbers, marks);
     at = word(lines, at, b"\n");
     let with_overflowed = if overflowed == 0 { 0 } else { 1 };
@@ -155,15 +166,18 @@ fn say_columns() -> bool {
 }
 
 fn say_tally(tally: Tally) {
-    let mut space = [0u8; 256];
-    let line: &mut [u8] = &mut space;
-    let mut at = put_blocks(line, 0, tally.blocks);
-    at = word(line, at, b", ");
-    at = number(line, at, tally.bad);
-    at = word(line, at, b" bad, ");
-    at = number(line, at, tally.overflowed);
-    at = word(line, at, b" with overflowed values\n");
-    write_out(line, at);
+    let blocks = tally.blocks;
+    if blocks == 1 {
+        say(
+            b"# block, # bad, # with overflowed values\n",
+            &[blocks, tally.bad, tally.overflowed],
+        );
+    } else {
+        say(
+            b"# blocks, # bad, # with overflowed values\n",
+            &[blocks, tally.bad, tally.overflowed],
+        );
+    }
 }
 
 // The lines of a part are written at once.
@@ -190,13 +204,25 @@ fn list_cut(name: &[u8], bytes: &[u8], tally: Tally, lines: &mut [u8]) {
     }
 }
 
-fn list_part(fd: i32, name: &[u8], part: &mut [u8], tally: Tally, lines: &mut [u8]) -> Listing {
-    match fill(fd, part) {
+// A part that was filled so far.
+fn list_filled(
+    filled: Filled,
+    name: &[u8],
+    part: &[u8],
+    tally: Tally,
+    lines: &mut [u8],
+) -> Listing {
+    match filled {
         Filled::Full => return list_run(part, tally, lines),
-        Filled::Ended(filled) => list_last(first(part, filled), tally, lines),
-        Filled::Failed(filled) => list_cut(name, first(part, filled), tally, lines),
+        Filled::Ended(count) => list_last(first(part, count), tally, lines),
+        Filled::Failed(count) => list_cut(name, first(part, count), tally, lines),
     }
     Listing::Over
+}
+
+fn list_part(fd: i32, name: &[u8], part: &mut [u8], tally: Tally, lines: &mut [u8]) -> Listing {
+    let filled = fill(fd, part);
+    list_filled(filled, name, part, tally, lines)
 }
 
 // Nothing says that a file ends, so the parts are counted down from a number that no file uses up.

@@ -1,54 +1,43 @@
 // Refusals in words.
+use crate::lists::line_of;
+use crate::text::put_form;
 use checked::refusal::Refusal;
-use lines::put::number;
 use lines::put::word;
 
-// A refusal's phrase.
-fn phrase(line: &mut [u8], at: usize, refusal: Refusal) -> usize {
-    match refusal {
-        Refusal::DivisorZero => word(line, at, b"divisor 0"),
-        Refusal::BaseBelowTwo => word(line, at, b"base below 2"),
-        Refusal::Overflowed => word(line, at, b"overflowed operand"),
-        Refusal::QuotientTooLarge => word(line, at, b"signed quotient that doesn't fit"),
-        Refusal::UnknownWidth => word(line, at, b"width not 8, 16, 32 or 64"),
-        Refusal::LengthsDiffer => word(line, at, b"lists that differ in length"),
-        Refusal::ItemCount => word(line, at, b"recipe of 0 items or above 256"),
-        Refusal::UnknownKind => word(line, at, b"unknown kind, or operation with a number not 0"),
-        Refusal::LiteralTooLarge => word(line, at, b"literal too large for the width"),
-        Refusal::TooFewOnHand => word(line, at, b"operation with fewer than two values on hand"),
-        Refusal::HandFull => word(line, at, b"literal that would be the 33rd on hand"),
-        Refusal::SeveralLeft => word(line, at, b"recipe ends with more than one value"),
-        Refusal::NoneLeft => word(line, at, b"recipe ends with no value"),
-        Refusal::FieldEmpty => word(line, at, b"field without a value"),
-        Refusal::BadMark => word(
-            line,
-            at,
-            b"mark not 0 or 1, or overflowed with a number not 0",
-        ),
-        Refusal::BlockLength => word(line, at, b"the block is not 512 bytes"),
-        Refusal::WrongCheck => word(line, at, b"the check is wrong"),
-        Refusal::BadLayout => word(
-            line,
-            at,
-            b"the edition, the count, a mark or a byte that must be zero is wrong",
-        ),
-        Refusal::ListTooShort => word(line, at, b"list too short for what would be written"),
-        Refusal::AllowanceSpent => word(line, at, b"allowance spent"),
-        Refusal::BlockNumberTooLarge => word(line, at, b"block number above 2^32 - 1"),
-        Refusal::UnusableReading => word(line, at, b"reading is NaN or infinite"),
-        Refusal::NotWhole => word(
-            line,
-            at,
-            b"reading is not a whole number from 0 to 16,777,215",
-        ),
-        Refusal::OtherBlockNumber => word(line, at, b"block has another number"),
-    }
+// A refusal's words. They stand in the order of the refusals' numbers.
+fn put_phrase(line: &mut [u8], at: usize, number: u32) -> usize {
+    let phrases = b"\
+divisor 0
+base below 2
+overflowed operand
+signed quotient that doesn't fit
+width not 8, 16, 32 or 64
+lists that differ in length
+recipe of 0 items or above 256
+unknown kind, or operation with a number not 0
+literal too large for the width
+operation with fewer than two values on hand
+literal that would be the 33rd on hand
+recipe ends with more than one value
+recipe ends with no value
+field without a value
+mark not 0 or 1, or overflowed with a number not 0
+the block is not 512 bytes
+the check is wrong
+the edition, the count, a mark or a byte that must be zero is wrong
+list too short for what would be written
+allowance spent
+block number above 2^32 - 1
+reading is NaN or infinite
+reading is not a whole number from 0 to 16,777,215
+block has another number
+";
+    word(line, at, line_of(phrases, number))
 }
 
-// The phrase, and the refusal's number in parentheses.
+// A refusal's words, and its number in parentheses.
 pub(crate) fn reason(line: &mut [u8], from: usize, refusal: Refusal) -> usize {
-    let mut at = phrase(line, from, refusal);
-    at = word(line, at, b" (refusal ");
-    at = number(line, at, refusal.number() as u64);
-    word(line, at, b")")
+    let number = refusal.number();
+    let at = put_phrase(line, from, number);
+    put_form(line, at, b" (refusal #)", &[number as u64])
 }

@@ -3,10 +3,9 @@ use crate::show::show;
 use crate::text::complain;
 use crate::text::complain_too_long;
 use crate::text::first;
+use crate::text::put_form;
 use crate::words::Word;
 use crate::words::word_of;
-use lines::put::number;
-use lines::put::word;
 use recipe::run::run;
 
 // A number that was asked for, or nothing.
@@ -21,66 +20,64 @@ enum Item {
     Nothing,
 }
 
-fn complain_too_large(which: &[u8], said: &[u8]) {
-    complain(which, said, b", is too large: numbers are below 2^64");
+fn complain_too_large(before: &[u8], said: &[u8]) {
+    complain(before, said, b"', is too large: numbers are below 2^64\n");
 }
 
 // A number, or a line that says why it is none.
-fn number_in(which: &[u8], said: &[u8]) -> Given {
+fn number_in(before: &[u8], said: &[u8]) -> Given {
     match word_of(said) {
         Word::Number(n) => return Given::Number(n),
-        Word::TooLarge => complain_too_large(which, said),
-        _ => complain(which, said, b", is not a number"),
+        Word::TooLarge => complain_too_large(before, said),
+        _ => complain(before, said, b"', is not a number\n"),
     }
     Given::Nothing
 }
 
-// The number that a word of the command line is.
-fn number_at(index: usize, which: &[u8]) -> Given {
+// The number that a word of the command line is. A complaint about the word begins with `before`.
+fn number_at(index: usize, before: &[u8]) -> Given {
     let mut space = io::buffer();
     let said: &mut [u8] = &mut space;
     let length = os::arg(index, said);
     if os::errno() != 0 {
-        complain_too_long(which, said);
+        complain_too_long(before, said);
         return Given::Nothing;
     }
-    number_in(which, first(said, length))
+    number_in(before, first(said, length))
 }
 
 // An item, or a line that says why the word is none.
-fn item_in(which: &[u8], said: &[u8]) -> Item {
+fn item_in(before: &[u8], said: &[u8]) -> Item {
     match word_of(said) {
         Word::Number(n) => return Item::Item { kind: 0, number: n },
         Word::Operation(kind) => return Item::Item {
             kind: kind,
             number: 0,
         },
-        Word::TooLarge => complain_too_large(which, said),
-        Word::Neither => complain(which, said, b", is neither a number nor an operation"),
+        Word::TooLarge => complain_too_large(before, said),
+        Word::Neither => complain(before, said, b"', is neither a number nor an operation\n"),
     }
     Item::Nothing
 }
 
 // The item that a word of the command line is.
-fn item_named(index: usize, which: &[u8]) -> Item {
+fn item_named(index: usize, before: &[u8]) -> Item {
     let mut space = io::buffer();
     let said: &mut [u8] = &mut space;
     let length = os::arg(index, said);
     if os::errno() != 0 {
-        complain_too_long(which, said);
+        complain_too_long(before, said);
         return Item::Nothing;
     }
-    item_in(which, first(said, length))
+    item_in(before, first(said, length))
 }
 
 // The item at a place of the recipe, which is the word at `index` of the command line.
 fn item_at(place: usize, index: usize) -> Item {
     let mut space = [0u8; 64];
-    let which: &mut [u8] = &mut space;
-    let mut at = word(which, 0, b"word ");
-    at = number(which, at, place as u64);
-    at = word(which, at, b", ");
-    item_named(index, first(which, at))
+    let before: &mut [u8] = &mut space;
+    let at = put_form(before, 0, b"razo: word #, '", &[place as u64]);
+    item_named(index, first(before, at))
 }
 
 // Puts an item into the lists, or answers that there is none.
@@ -151,16 +148,16 @@ fn run_words(width: u64, allowance: u64) {
 pub(crate) fn run_command() {
     if os::arg_count() < 4 {
         complain(
-            b"",
+            b"razo: '",
             b"run",
-            b" takes WIDTH, ALLOWANCE and the words of a recipe",
+            b"' takes WIDTH, ALLOWANCE and the words of a recipe\n",
         );
         return;
     }
-    let Given::Number(width) = number_at(2, b"WIDTH, ") else {
+    let Given::Number(width) = number_at(2, b"razo: WIDTH, '") else {
         return;
     };
-    let Given::Number(allowance) = number_at(3, b"ALLOWANCE, ") else {
+    let Given::Number(allowance) = number_at(3, b"razo: ALLOWANCE, '") else {
         return;
     };
     run_words(width, allowance);

@@ -7,10 +7,10 @@ use crate::reason::reason;
 use crate::text::after;
 use crate::text::fail;
 use crate::text::first;
-use crate::text::put_blocks;
+use crate::text::put_form;
+use crate::text::say;
 use crate::text::write_out;
 use checked::refusal::Refusal;
-use lines::put::number;
 use lines::put::word;
 use search::search::search;
 use search::types::Found;
@@ -21,41 +21,30 @@ enum Search {
     Over,
 }
 
-fn say_overflowed(position: u64, place: u64) {
-    let mut space = [0u8; 256];
-    let line: &mut [u8] = &mut space;
-    let mut at = word(line, 0, b"overflowed: block ");
-    at = number(line, at, position);
-    at = word(line, at, b", place ");
-    at = number(line, at, place);
-    at = word(line, at, b"\n");
-    write_out(line, at);
-}
-
 fn say_bad(position: u64, refusal: Refusal) {
     let mut space = [0u8; 256];
     let line: &mut [u8] = &mut space;
-    let mut at = word(line, 0, b"bad block ");
-    at = number(line, at, position);
-    at = word(line, at, b": ");
+    let mut at = put_form(line, 0, b"bad block #: ", &[position]);
     at = reason(line, at, refusal);
     at = word(line, at, b"\n");
     write_out(line, at);
 }
 
 fn say_none(blocks: u64) {
-    let mut space = [0u8; 256];
-    let line: &mut [u8] = &mut space;
-    let mut at = word(line, 0, b"none overflowed in ");
-    at = put_blocks(line, at, blocks);
-    at = word(line, at, b"\n");
-    write_out(line, at);
+    if blocks == 1 {
+        say(b"none overflowed in # block\n", &[blocks]);
+    } else {
+        say(b"none overflowed in # blocks\n", &[blocks]);
+    }
 }
 
 // A run of blocks, with so many blocks before it.
 fn search_run(run: &[u8], behind: u64) -> Search {
     match search(run) {
-        Found::Overflowed { position, place } => say_overflowed(count_on(behind, position), place),
+        Found::Overflowed { position, place } => say(
+            b"overflowed: block #, place #\n",
+            &[count_on(behind, position), place],
+        ),
         Found::Refused(refusal, position) => say_bad(count_on(behind, position), refusal),
         Found::None => return Search::Behind(count_on(behind, run.len() as u64 / 512)),
     }
@@ -82,13 +71,19 @@ fn search_cut(name: &[u8], bytes: &[u8], behind: u64) {
     }
 }
 
-fn search_part(fd: i32, name: &[u8], part: &mut [u8], behind: u64) -> Search {
-    match fill(fd, part) {
+// A part that was filled so far.
+fn search_filled(filled: Filled, name: &[u8], part: &[u8], behind: u64) -> Search {
+    match filled {
         Filled::Full => return search_run(part, behind),
-        Filled::Ended(filled) => search_last(first(part, filled), behind),
-        Filled::Failed(filled) => search_cut(name, first(part, filled), behind),
+        Filled::Ended(count) => search_last(first(part, count), behind),
+        Filled::Failed(count) => search_cut(name, first(part, count), behind),
     }
     Search::Over
+}
+
+fn search_part(fd: i32, name: &[u8], part: &mut [u8], behind: u64) -> Search {
+    let filled = fill(fd, part);
+    search_filled(filled, name, part, behind)
 }
 
 // Nothing says that a file ends, so the parts are counted down from a number that no file uses up.

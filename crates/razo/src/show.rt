@@ -2,6 +2,7 @@
 use crate::reason::reason;
 use crate::text::count_set;
 use crate::text::first;
+use crate::text::put_form;
 use crate::text::write_out;
 use checked::refusal::Refusal;
 use checked::types::Checked64;
@@ -20,40 +21,36 @@ fn put_value(line: &mut [u8], at: usize, value: Checked64) -> usize {
     }
 }
 
-// A number with its name before it.
-fn put_named(line: &mut [u8], from: usize, name: &[u8], n: u64) -> usize {
+// A value with its name before it.
+fn put_named(line: &mut [u8], from: usize, name: &[u8], value: Checked64) -> usize {
     let at = word(line, from, name);
-    number(line, at, n)
+    put_value(line, at, value)
 }
 
-fn put_steps(line: &mut [u8], from: usize, steps: u64) -> usize {
-    let at = put_named(line, from, b"steps: ", steps);
-    word(line, at, b"\n")
+// The end of a line, and a line with the steps.
+fn put_steps(line: &mut [u8], at: usize, steps: u64) -> usize {
+    put_form(line, at, b"\nsteps: #\n", &[steps])
 }
 
-fn put_answer(line: &mut [u8], from: usize, value: Checked64) -> usize {
-    let mut at = word(line, from, b"answer: ");
-    at = put_value(line, at, value);
-    word(line, at, b"\n")
+fn put_answer(line: &mut [u8], value: Checked64, steps: u64) -> usize {
+    let at = put_named(line, 0, b"answer: ", value);
+    put_steps(line, at, steps)
 }
 
 // Where a recipe was refused: at an item, at its end, or as a whole.
 fn put_place(line: &mut [u8], at: usize, refusal: Refusal, place: u64) -> usize {
     match refusal {
         Refusal::UnknownWidth | Refusal::LengthsDiffer | Refusal::ItemCount => at,
-        Refusal::SeveralLeft | Refusal::NoneLeft => {
-            let after = put_named(line, at, b" after ", place);
-            word(line, after, b" items")
-        }
-        _ => put_named(line, at, b" at item ", place),
+        Refusal::SeveralLeft | Refusal::NoneLeft => put_form(line, at, b" after # items", &[place]),
+        _ => put_form(line, at, b" at item #", &[place]),
     }
 }
 
-fn put_refused(line: &mut [u8], from: usize, refusal: Refusal, place: u64) -> usize {
-    let mut at = word(line, from, b"refused: ");
+fn put_refused(line: &mut [u8], refusal: Refusal, place: u64, steps: u64) -> usize {
+    let mut at = word(line, 0, b"refused: ");
     at = reason(line, at, refusal);
     at = put_place(line, at, refusal, place);
-    word(line, at, b"\n")
+    put_steps(line, at, steps)
 }
 
 // What a has more than b.
@@ -76,12 +73,11 @@ fn held_after(kinds: &[u8], done: u64, phase: Phase) -> u64 {
     }
 }
 
-fn put_hand_place(line: &mut [u8], from: usize, n: u64, mark: u8) -> usize {
-    let at = word(line, from, b" ");
+fn put_hand_place(line: &mut [u8], at: usize, n: u64, mark: u8) -> usize {
     if mark == 0 {
-        return number(line, at, n);
+        return put_form(line, at, b" #", &[n]);
     }
-    word(line, at, b"overflowed")
+    word(line, at, b" overflowed")
 }
 
 // The places in use, from the bottom up.
@@ -111,10 +107,10 @@ fn put_hand(
     marks: &[u8; 32],
     held: u64,
 ) -> usize {
-    let mut at = word(line, from, b"hand:");
     if held == 0 {
-        return word(line, at, b" empty\n");
+        return word(line, from, b"hand: empty\n");
     }
+    let mut at = word(line, from, b"hand:");
     at = put_places(line, at, numbers, marks, held);
     word(line, at, b"\n")
 }
@@ -122,40 +118,34 @@ fn put_hand(
 fn put_power(line: &mut [u8], from: usize, power: Power) -> usize {
     let first = power.first;
     let second = power.second;
-    let mut at = word(line, from, b"phase: within a power: first ");
-    at = put_value(line, at, first);
-    at = word(line, at, b", second ");
-    at = put_value(line, at, second);
-    put_named(line, at, b", exponent ", power.exponent)
+    let mut at = put_named(line, from, b"phase: within a power: first ", first);
+    at = put_named(line, at, b", second ", second);
+    put_form(line, at, b", exponent #\n", &[power.exponent])
 }
 
-fn put_logarithm(line: &mut [u8], from: usize, logarithm: Logarithm) -> usize {
-    let mut at = put_named(
+fn put_logarithm(line: &mut [u8], at: usize, logarithm: Logarithm) -> usize {
+    put_form(
         line,
-        from,
-        b"phase: within a logarithm: base ",
-        logarithm.base,
-    );
-    at = put_named(line, at, b", left ", logarithm.left);
-    put_named(line, at, b", count ", logarithm.count)
+        at,
+        b"phase: within a logarithm: base #, left #, count #\n",
+        &[logarithm.base, logarithm.left, logarithm.count],
+    )
 }
 
 fn put_phase(line: &mut [u8], at: usize, phase: Phase) -> usize {
     match phase {
-        Phase::Between => word(line, at, b"phase: between items"),
+        Phase::Between => word(line, at, b"phase: between items\n"),
         Phase::InPower(power) => put_power(line, at, power),
         Phase::InLogarithm(logarithm) => put_logarithm(line, at, logarithm),
     }
 }
 
 // How far the allowance went.
-fn put_spent(line: &mut [u8], from: usize, steps: u64, done: u64) -> usize {
-    let mut at = word(line, from, b"stopped: ");
+fn put_spent(line: &mut [u8], steps: u64, done: u64) -> usize {
+    let mut at = word(line, 0, b"stopped: ");
     at = reason(line, at, Refusal::AllowanceSpent);
-    at = word(line, at, b"\n");
     at = put_steps(line, at, steps);
-    at = put_named(line, at, b"items done: ", done);
-    word(line, at, b"\n")
+    put_form(line, at, b"items done: #\n", &[done])
 }
 
 // The state where the allowance was spent.
@@ -164,25 +154,18 @@ fn put_stopped(line: &mut [u8], run: Run, kinds: &[u8]) -> usize {
     let numbers = run.numbers;
     let marks = run.marks;
     let held = held_after(kinds, run.done, phase);
-    let mut at = put_spent(line, 0, run.steps, run.done);
+    let mut at = put_spent(line, run.steps, run.done);
     at = put_hand(line, at, &numbers, &marks, held);
-    at = put_phase(line, at, phase);
-    word(line, at, b"\n")
+    put_phase(line, at, phase)
 }
 
 fn put_run(line: &mut [u8], run: Run, kinds: &[u8]) -> usize {
     let answer = run.answer;
     match answer {
-        Answer::Value(value) => {
-            let at = put_answer(line, 0, value);
-            put_steps(line, at, run.steps)
-        }
+        Answer::Value(value) => put_answer(line, value, run.steps),
         Answer::Refused(refusal, place) => match refusal {
             Refusal::AllowanceSpent => put_stopped(line, run, kinds),
-            _ => {
-                let at = put_refused(line, 0, refusal, place);
-                put_steps(line, at, run.steps)
-            }
+            _ => put_refused(line, refusal, place, run.steps),
         },
     }
 }

@@ -48,13 +48,35 @@ pub(crate) fn count_set(bytes: &[u8]) -> u64 {
     set
 }
 
-// How many blocks there are, in words.
-pub(crate) fn put_blocks(line: &mut [u8], from: usize, blocks: u64) -> usize {
-    let at = number(line, from, blocks);
-    if blocks == 1 {
-        return word(line, at, b" block");
+// One byte of a form: itself, or for '#' the number.
+fn put_piece(line: &mut [u8], at: usize, byte: u8, n: u64) -> usize {
+    if byte == b'#' {
+        return number(line, at, n);
     }
-    word(line, at, b" blocks")
+    word(line, at, &[byte])
+}
+
+// The number at a place, or 0 past the list's end.
+fn at_or_0(numbers: &[u64], place: usize) -> u64 {
+    if place < numbers.len() {
+        return numbers[place];
+    }
+    0
+}
+
+// A text with a number in the place of each '#'.
+pub(crate) fn put_form(line: &mut [u8], from: usize, form: &[u8], numbers: &[u64]) -> usize {
+    let mut at = from;
+    let mut used = 0;
+    let mut i = 0;
+    while i < form.len() {
+        at = put_piece(line, at, form[i], at_or_0(numbers, used));
+        if form[i] == b'#' {
+            used = used + 1;
+        }
+        i = i + 1;
+    }
+    at
 }
 
 // Writes the first n bytes of the lines to standard output, or says why that can't be.
@@ -66,26 +88,30 @@ pub(crate) fn write_out(lines: &[u8], n: usize) -> bool {
     written
 }
 
-// One line on standard error: which word is wrong, the word in quotes, and what is wrong with it.
-pub(crate) fn complain(which: &[u8], said: &[u8], what: &[u8]) {
+// Writes one line, a form with its numbers, to standard output.
+pub(crate) fn say(form: &[u8], numbers: &[u64]) {
+    let mut space = [0u8; 256];
+    let line: &mut [u8] = &mut space;
+    let at = put_form(line, 0, form, numbers);
+    write_out(line, at);
+}
+
+// One line on standard error: a word that is wrong, with what stands before and after it.
+pub(crate) fn complain(before: &[u8], said: &[u8], behind: &[u8]) {
     let mut space = [0u8; 4608];
     let line: &mut [u8] = &mut space;
-    let mut at = word(line, 0, b"razo: ");
-    at = word(line, at, which);
-    at = word(line, at, b"'");
+    let mut at = word(line, 0, before);
     at = word(line, at, said);
-    at = word(line, at, b"'");
-    at = word(line, at, what);
-    at = word(line, at, b"\n");
+    at = word(line, at, behind);
     io::write_all(STDERR_FILENO, first(line, at));
 }
 
 // A word that no place here holds is shown by its first bytes.
-pub(crate) fn complain_too_long(which: &[u8], said: &[u8]) {
+pub(crate) fn complain_too_long(before: &[u8], said: &[u8]) {
     complain(
-        which,
+        before,
         first(said, 32),
-        b".. is too long: words have at most 4096 bytes",
+        b"'.. is too long: words have at most 4096 bytes\n",
     );
 }
 

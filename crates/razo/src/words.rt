@@ -1,5 +1,5 @@
 // The reading of words: numbers and the names of operations.
-use crate::text::same;
+use crate::lists::number_of;
 use checked::types::Checked64;
 
 // What a word says. An operation has its kind's code.
@@ -12,25 +12,11 @@ pub(crate) enum Word {
 
 // The kind of the operation that a word names, or 0.
 fn kind_of(said: &[u8]) -> u8 {
-    if same(said, b"sum") {
-        return 1;
-    }
-    if same(said, b"product") {
-        return 2;
-    }
-    if same(said, b"quotient") {
-        return 3;
-    }
-    if same(said, b"remainder") {
-        return 4;
-    }
-    if same(said, b"power") {
-        return 5;
-    }
-    if same(said, b"logarithm") {
-        return 6;
-    }
-    0
+    number_of(
+        said,
+        6,
+        b"sum\nproduct\nquotient\nremainder\npower\nlogarithm\n",
+    )
 }
 
 fn is_decimal(said: &[u8]) -> bool {

@@ -7,12 +7,14 @@ use Prim.Native.Nat.{ℕ, _≤_, _<_}
 use borrow.Author.Tests.{lt-ltb, le-ltb, eq-eqb}
 use lib.Dec.{eqb}
 use lib.ListN.{length, drop}
+use lib.Seq.{sets, sets-eq}
 use Rattle.checked.specs.declared.refusal.Refusal.{Refusal}
 use Rattle.checked.specs.declared.types.Checked64.the-variants.{Fits, Overflowed}
 use Rattle.checked.specs.Value.{Value}
 use Rattle.checked.specs.Paper.{Paper, given, refused, numberOf}
 use Rattle.checked.proofs.Unique.{not-zero}
-use Rattle.razovinto.specs.Entry.{resultBytes, returned, afterwards}
+use Rattle.little.specs.Bytes.{bytesOf}
+use Rattle.razovinto.specs.Entry.{markBytes, resultBytes, returned, afterwards}
 
 -- ---- what is returned
 
@@ -53,9 +55,16 @@ pub value-returns : (v : Value) (result : List ℕ) → 16 ≤ length result →
 value-returns (Fits n) result h = roomy-returns (given (Fits n)) result h
 value-returns Overflowed result h = roomy-returns (given Overflowed) result h
 
+-- the number written, and then its mark, are the value's 16 bytes
 pub value-written
-    : (v : Value) (result : List ℕ) → 16 ≤ length result → resultBytes (given v .number) (given v .mark) ++ drop 16 result ≡ afterwards (given v) result
-value-written v result h = answered-written (given v) result (sym (value-returns v result h))
+    : (v : Value) (result : List ℕ) {half whole : List ℕ}
+    → 16 ≤ length result
+    → half ≡ sets result 0 (bytesOf 8 (given v .number)) → whole ≡ sets half 8 (markBytes (given v .mark)) → whole ≡ afterwards (given v) result
+unfolding bytesOf
+value-written v result h number mark =
+    let p = given v in
+    mark ∙ ap (λ l. sets l 8 (markBytes (p .mark))) number ∙ sets-eq (resultBytes (p .number) (p .mark)) result 0 h
+    ∙ answered-written p result (sym (value-returns v result h))
 
 -- ---- what is true of an answer is true of the answer that it equals
 

@@ -8,9 +8,13 @@ use lib.ListN.{length, drop}
 use Rattle.checked.specs.Paper.{Paper}
 use Rattle.little.specs.Bytes.{bytesOf}
 
+-- a mark and seven zeros
+abbrev pub markBytes : ℕ → List ℕ
+markBytes mark = mark ∷ 0 ∷ 0 ∷ 0 ∷ 0 ∷ 0 ∷ 0 ∷ 0 ∷ []
+
 -- the 16 bytes of a value: its number, the lowest byte first, its mark, and seven zeros
 abbrev pub resultBytes : ℕ → ℕ → List ℕ
-resultBytes number mark = bytesOf 8 number ++ (mark ∷ 0 ∷ 0 ∷ 0 ∷ 0 ∷ 0 ∷ 0 ∷ 0 ∷ [])
+resultBytes number mark = bytesOf 8 number ++ markBytes mark
 
 -- a slice shorter than 16 bytes is refused before anything else is looked at
 unfoldable pub returned : Paper → List ℕ → ℕ

@@ -3,17 +3,17 @@ use checked::refusal::Refusal;
 use checked::types::Answer64;
 use checked::types::Checked64;
 ghost use mathlib.Core.Path.{_≡_};
-ghost use mathlib.Core.List.{_++_};
 ghost use Prim.Native.Nat.{_≤_};
-ghost use lib.ListN.{length, drop};
+ghost use lib.ListN.{length};
+ghost use lib.Seq.{sets};
 ghost use Rattle.checked.specs.Paper.{paper, given};
-ghost use Rattle.razovinto.specs.Entry.{resultBytes, returned, afterwards};
+ghost use Rattle.little.specs.Bytes.{bytesOf};
+ghost use Rattle.razovinto.specs.Entry.{markBytes, returned, afterwards};
 
-// A number that fits, its lowest byte first, the mark 0 and seven zeros: written out byte by byte, they become two stores. An
-// overflowed value has a function of its own, since with one for both the mark would need a store of its own.
-fn put_fitting(result: &mut [u8], number: u64)
+// A number, its lowest byte first: written out byte by byte, it becomes one store.
+fn put_number(result: &mut [u8], number: u64)
     requires { ⌜ 16 ≤ length (now result) ⌝ }
-    ensures { λ r. ⌜ now (result .exit) ≡ resultBytes number 0 ++ drop 16 (now (result .entry)) ⌝ }
+    ensures { λ r. ⌜ now (result .exit) ≡ sets (now (result .entry)) 0 (bytesOf 8 number) ⌝ }
 {
     let second = number / 256;
     let third = second / 256;
@@ -30,6 +30,13 @@ fn put_fitting(result: &mut [u8], number: u64)
     result[5] = (sixth % 256) as u8;
     result[6] = (seventh % 256) as u8;
     result[7] = (eighth % 256) as u8;
+}
+
+// The mark 0 and seven zeros. The mark 1 has a function of its own, since one that is handed the mark would need a store for it.
+fn put_fits(result: &mut [u8])
+    requires { ⌜ 16 ≤ length (now result) ⌝ }
+    ensures { λ r. ⌜ now (result .exit) ≡ sets (now (result .entry)) 8 (markBytes 0) ⌝ }
+{
     result[8] = 0;
     result[9] = 0;
     result[10] = 0;
@@ -40,19 +47,11 @@ fn put_fitting(result: &mut [u8], number: u64)
     result[15] = 0;
 }
 
-// The number 0, the mark 1 and seven zeros.
+// The mark 1 and seven zeros.
 fn put_overflowed(result: &mut [u8])
     requires { ⌜ 16 ≤ length (now result) ⌝ }
-    ensures { λ r. ⌜ now (result .exit) ≡ resultBytes 0 1 ++ drop 16 (now (result .entry)) ⌝ }
+    ensures { λ r. ⌜ now (result .exit) ≡ sets (now (result .entry)) 8 (markBytes 1) ⌝ }
 {
-    result[0] = 0;
-    result[1] = 0;
-    result[2] = 0;
-    result[3] = 0;
-    result[4] = 0;
-    result[5] = 0;
-    result[6] = 0;
-    result[7] = 0;
     result[8] = 1;
     result[9] = 0;
     result[10] = 0;
@@ -69,8 +68,14 @@ fn put_value(result: &mut [u8], value: Checked64)
     ensures { λ r. ⌜ now (result .exit) ≡ afterwards (given value) (now (result .entry)) ⌝ }
 {
     match value {
-        Checked64::Fits(n) => put_fitting(result, n),
-        Checked64::Overflowed => put_overflowed(result),
+        Checked64::Fits(n) => {
+            put_number(result, n);
+            put_fits(result);
+        }
+        Checked64::Overflowed => {
+            put_number(result, 0);
+            put_overflowed(result);
+        }
     }
 }
 

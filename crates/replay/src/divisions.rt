@@ -1,8 +1,8 @@
 // Row 6: quotient and remainder of signed numbers, at each width. A case is asked `fits` first, so no number is cut where it is
 // narrowed.
 use crate::answers;
+use crate::case_bytes;
 use crate::line;
-use crate::little;
 use crate::types::Case;
 use crate::types::Fault;
 use signed::divide;
@@ -168,8 +168,8 @@ pub fn replay(bytes: &[u8], out: &mut [u8], at: usize) -> Case {
     }
     let width = bytes[1];
     let which = bytes[2];
-    let a = twos_complement(little::long(bytes, 3));
-    let b = twos_complement(little::long(bytes, 11));
+    let a = twos_complement(case_bytes::long(bytes, 3));
+    let b = twos_complement(case_bytes::long(bytes, 11));
     if 1 < which {
         return Case::Malformed(Fault::NotAllowed);
     }

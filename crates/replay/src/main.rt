@@ -2,10 +2,10 @@
 // case gets the line `malformed` and ends the replay. A case's first byte says which row it is of; the comment above each row's
 // `replay` says what follows, where b is a number of 1 byte, h of 2, w of 4 and q of 8.
 mod answers;
+mod case_bytes;
 mod divisions;
 mod input;
 mod line;
-mod little;
 mod operations;
 mod plain_numbers;
 mod power_fits;

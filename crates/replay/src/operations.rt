@@ -1,7 +1,7 @@
 // Row 5: one of the six operations at a width, by the width's own type.
 use crate::answers;
+use crate::case_bytes;
 use crate::line;
-use crate::little;
 use crate::types::Case;
 use crate::types::Fault;
 use crate::values;
@@ -163,9 +163,9 @@ pub fn replay(bytes: &[u8], out: &mut [u8], at: usize) -> Case {
     let width = bytes[1];
     let kind = bytes[2];
     let left_mark = bytes[3];
-    let left = little::long(bytes, 4);
+    let left = case_bytes::long(bytes, 4);
     let right_mark = bytes[12];
-    let right = little::long(bytes, 13);
+    let right = case_bytes::long(bytes, 13);
     if !is_kind(kind) {
         return Case::Malformed(Fault::NotAllowed);
     }

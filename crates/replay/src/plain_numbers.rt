@@ -1,7 +1,7 @@
 // Row 8: the plain number is asked of a checked value.
 use crate::answers;
+use crate::case_bytes;
 use crate::line;
-use crate::little;
 use crate::types::Case;
 use crate::types::Fault;
 use crate::values;
@@ -54,7 +54,7 @@ pub fn replay(bytes: &[u8], out: &mut [u8], at: usize) -> Case {
     }
     let width = bytes[1];
     let mark = bytes[2];
-    let number = little::long(bytes, 3);
+    let number = case_bytes::long(bytes, 3);
     if !values::is_allowed(width, mark, number) {
         return Case::Malformed(Fault::NotAllowed);
     }

@@ -1,7 +1,7 @@
 // Row 3: a block is read into two lent lists, which are shown as they stand afterwards.
 use crate::answers;
+use crate::case_bytes;
 use crate::line;
-use crate::little;
 use crate::types::Case;
 use crate::types::Fault;
 use crate::types::MOST_ELEMENTS;
@@ -74,9 +74,9 @@ pub fn replay(
     if bytes.len() < 7 {
         return Case::Malformed(Fault::CutShort);
     }
-    let byte_count = little::half(bytes, 1) as usize;
-    let number_count = little::half(bytes, 3) as usize;
-    let mark_count = little::half(bytes, 5) as usize;
+    let byte_count = case_bytes::half(bytes, 1) as usize;
+    let number_count = case_bytes::half(bytes, 3) as usize;
+    let mark_count = case_bytes::half(bytes, 5) as usize;
     if MOST_ELEMENTS < byte_count {
         return Case::Malformed(Fault::TooLarge);
     }

@@ -1,7 +1,7 @@
 // Row 1: a recipe runs with an allowance.
 use crate::answers;
+use crate::case_bytes;
 use crate::line;
-use crate::little;
 use crate::types::Case;
 use crate::types::Fault;
 use crate::types::MOST_ELEMENTS;
@@ -82,9 +82,9 @@ pub fn replay(bytes: &[u8], numbers: &mut [u64], out: &mut [u8], at: usize) -> C
         return Case::Malformed(Fault::CutShort);
     }
     let width = answers::wide8(bytes[1]);
-    let allowance = little::long(bytes, 2);
-    let kind_count = little::half(bytes, 10) as usize;
-    let number_count = little::half(bytes, 12) as usize;
+    let allowance = case_bytes::long(bytes, 2);
+    let kind_count = case_bytes::half(bytes, 10) as usize;
+    let number_count = case_bytes::half(bytes, 12) as usize;
     if MOST_ELEMENTS < kind_count {
         return Case::Malformed(Fault::TooLarge);
     }
@@ -96,7 +96,7 @@ pub fn replay(bytes: &[u8], numbers: &mut [u64], out: &mut [u8], at: usize) -> C
     if bytes.len() < used {
         return Case::Malformed(Fault::CutShort);
     }
-    little::longs(bytes, from, &mut numbers[0..number_count]);
+    case_bytes::longs(bytes, from, &mut numbers[0..number_count]);
     let answer = run(
         width,
         &bytes[14..from],

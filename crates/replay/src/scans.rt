@@ -1,7 +1,7 @@
 // Row 2: the range of a field.
 use crate::answers;
+use crate::case_bytes;
 use crate::line;
-use crate::little;
 use crate::types::Case;
 use crate::types::Fault;
 use crate::types::MOST_ELEMENTS;
@@ -24,8 +24,8 @@ pub fn replay(bytes: &[u8], numbers: &mut [u64], out: &mut [u8], at: usize) -> C
     if bytes.len() < 5 {
         return Case::Malformed(Fault::CutShort);
     }
-    let number_count = little::half(bytes, 1) as usize;
-    let mark_count = little::half(bytes, 3) as usize;
+    let number_count = case_bytes::half(bytes, 1) as usize;
+    let mark_count = case_bytes::half(bytes, 3) as usize;
     if numbers.len() < number_count {
         return Case::Malformed(Fault::TooLarge);
     }
@@ -37,7 +37,7 @@ pub fn replay(bytes: &[u8], numbers: &mut [u64], out: &mut [u8], at: usize) -> C
     if bytes.len() < used {
         return Case::Malformed(Fault::CutShort);
     }
-    little::longs(bytes, 5, &mut numbers[0..number_count]);
+    case_bytes::longs(bytes, 5, &mut numbers[0..number_count]);
     let answer = shown(scan(&numbers[0..number_count], &bytes[from..used]));
     Case::Answered {
         used: used,

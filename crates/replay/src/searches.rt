@@ -1,7 +1,7 @@
 // Row 4: the first overflowed value of a run of blocks.
 use crate::answers;
+use crate::case_bytes;
 use crate::line;
-use crate::little;
 use crate::types::Case;
 use crate::types::Fault;
 use crate::types::MOST_BYTES;
@@ -21,7 +21,7 @@ pub fn replay(bytes: &[u8], out: &mut [u8], at: usize) -> Case {
     if bytes.len() < 5 {
         return Case::Malformed(Fault::CutShort);
     }
-    let byte_count = little::word(bytes, 1) as usize;
+    let byte_count = case_bytes::word(bytes, 1) as usize;
     if MOST_BYTES < byte_count {
         return Case::Malformed(Fault::TooLarge);
     }

@@ -1,23 +1,32 @@
-// Little-endian numbers of two, four and eight bytes, and lists of the last.
+// Numbers of two, four and eight bytes at a place of a case, and lists of the last.
 ghost use Prim.Native.Nat.{_+_, _*_, _≤_};
 ghost use lib.ListN.{length};
 
 pub fn half(bytes: &[u8], at: usize) -> u16
     requires { ⌜ at + 2 ≤ length (now bytes) ⌝ }
 {
-    bytes[at] as u16 + 256 * bytes[at + 1] as u16
+    little::bytes::half(bytes[at], bytes[at + 1])
 }
 
 pub fn word(bytes: &[u8], at: usize) -> u32
     requires { ⌜ at + 4 ≤ length (now bytes) ⌝ }
 {
-    half(bytes, at) as u32 + 65536 * half(bytes, at + 2) as u32
+    little::bytes::word(bytes[at], bytes[at + 1], bytes[at + 2], bytes[at + 3])
 }
 
 pub fn long(bytes: &[u8], at: usize) -> u64
     requires { ⌜ at + 8 ≤ length (now bytes) ⌝ }
 {
-    word(bytes, at) as u64 + 4294967296 * word(bytes, at + 4) as u64
+    little::bytes::long(
+        bytes[at],
+        bytes[at + 1],
+        bytes[at + 2],
+        bytes[at + 3],
+        bytes[at + 4],
+        bytes[at + 5],
+        bytes[at + 6],
+        bytes[at + 7],
+    )
 }
 
 // As many numbers of eight bytes as the lent list takes.

@@ -1,17 +1,17 @@
--- `little::longs` is safe and ends. The measure is the number of elements left.
+-- `case_bytes::longs` is safe and ends. The measure is the number of elements left.
 -- Assumes nothing.
 use borrow.Author.Needs.{needs}
 use mathlib.Core.Path.{_≡_}
 use lib.ListN.{length}
 use Prim.Native.Nat.{_-_}
-use Rattle.replay.proofs.little.longs.Statement.{statement}
-use Rattle.replay.proofs.little.longs.Tie as tie
+use Rattle.replay.proofs.case_bytes.longs.Statement.{statement}
+use Rattle.replay.proofs.case_bytes.longs.Tie as tie
 
 abbrev Inv-loop : tie.InvT-loop
-Inv-loop bytes from numbers₀ i₀ numbers i = length numbers ≡ length numbers₀
+Inv-loop case from numbers₀ i₀ numbers i = length numbers ≡ length numbers₀
 
 abbrev μ-loop : tie.MeasureT-loop
-μ-loop bytes from numbers₀ i₀ numbers i = length numbers₀ - i
+μ-loop case from numbers₀ i₀ numbers i = length numbers₀ - i
 
 loop-holds : tie.Need-loop-holds Inv-loop μ-loop
 loop-holds c = search needs
