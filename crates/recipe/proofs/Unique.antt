@@ -6,10 +6,9 @@ use mathlib.Core.List.{List}
 use Prim.Native.Nat.{ℕ}
 use lib.Dec.{eqb}
 use lib.ListN.{getD}
-use Rattle.checked.specs.Value.{Value}
 use Rattle.checked.specs.declared.types.Checked64.the-variants.{Fits, Overflowed}
-use Rattle.checked.specs.Paper.{Paper, numberOf}
-use Rattle.checked.proofs.Unique.{one, refusalOf, refusal-back, not-zero}
+use Rattle.checked.specs.Paper.{Paper}
+use Rattle.checked.proofs.Unique.{one, back, gives, refuses, told-back, valueIn}
 use Rattle.steps.specs.declared.types.Phase.{Phase}
 use Rattle.steps.specs.declared.types.Phase.the-variants.{Between, InPower, InLogarithm}
 use Rattle.recipe.specs.declared.types.Answer.{Answer}
@@ -19,15 +18,16 @@ use Rattle.recipe.specs.Run.{Shown, phaseNumbers, answerOf, paper, runOf
 use Rattle.recipe.specs.Machine.{valueOf}
 use Rattle.recipe.proofs.Places.{value-back}
 
-answerBack : Paper → Answer
-answerBack p = elim (eqb (p .code) 0) [ true ↦ answer.Value (valueOf (p .number) (p .mark)) | false ↦ answer.Refused (refusalOf (p .code)) (p .place) ]
+abbrev answerBack : Paper → Answer
+answerBack = back (λ p. p .code) (λ p. answer.Value (valueIn p)) (λ p r. answer.Refused r (p .place))
 
 answer-back : (a : Answer) → answerBack (answerOf a) ≡ a
-unfolding answerBack
-answer-back (answer.Value (Fits n)) = refl
-answer-back (answer.Value Overflowed) = refl
-answer-back (answer.Refused r i) =
-    ap {B = Answer} (λ t. elim t [ true ↦ answer.Value (valueOf 0 0) | false ↦ answer.Refused (refusalOf (numberOf r)) i ]) (not-zero r) ∙ ap (λ r. answer.Refused r i) (refusal-back r)
+answer-back =
+    told-back (λ p. p .code) (λ p. answer.Value (valueIn p)) (λ p r. answer.Refused r (p .place)) answerOf
+    (elim [
+      | answer.Value v ↦ elim v [ Fits n ↦ gives refl refl | Overflowed ↦ gives refl refl ]
+      | answer.Refused r i ↦ refuses r refl refl
+    ])
 
 phaseBack : List ℕ → Phase
 phaseBack ns =
