@@ -27,6 +27,10 @@ the check is wrong
 the edition, the count, a mark or a byte that must be zero is wrong
 list too short for what would be written
 allowance spent
+block number above 2^32 - 1
+reading is NaN or infinite
+reading is not a whole number from 0 to 16,777,215
+block has another number
 ";
     word(line, at, line_of(phrases, number))
 }
