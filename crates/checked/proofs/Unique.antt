@@ -117,13 +117,13 @@ valueIn p = cond (eqb (p .mark) 0) (c64.Fits (p .number)) c64.Overflowed
 
 -- ---- 64 bits
 
+paper-told : (x : Answer64) → Told (λ p. p .code) (λ p. a64.Value (valueIn p)) (λ p. a64.Refused) paper x
+paper-told (a64.Value (c64.Fits n)) = gives refl refl
+paper-told (a64.Value c64.Overflowed) = gives refl refl
+paper-told (a64.Refused r) = refuses r refl refl
+
 pub paper-unique : (x y : Answer64) → paper x ≡ paper y → x ≡ y
-paper-unique =
-    told-apart (λ p. p .code) (λ p. a64.Value (valueIn p)) (λ p. a64.Refused) paper
-    (elim [
-      | a64.Value c ↦ elim c [ c64.Fits n ↦ gives refl refl | c64.Overflowed ↦ gives refl refl ]
-      | a64.Refused r ↦ refuses r refl refl
-    ])
+paper-unique = told-apart (λ p. p .code) (λ p. a64.Value (valueIn p)) (λ p. a64.Refused) paper paper-told
 
 pub plain-unique : (x y : Plain64) → plain x ≡ plain y → x ≡ y
 plain-unique =

@@ -1,7 +1,7 @@
 -- A place's faults by its mark and its number: by the mark alone 0 or 15, in a scan 0, 3 or 15.
 -- Assumes nothing.
-use mathlib.Core.Path.{_≡_}
-use mathlib.Core.Logic.{inl, inr, ⊎-elim}
+use mathlib.Core.Path.{_≡_, sym, _∙_}
+use mathlib.Core.Logic.{_⊎_, inl, inr, ⊎-elim}
 use Prim.Native.Nat.{ℕ}
 use native.Mathlib.Decide.{ℕ-discrete}
 use native.Mathlib.Omega.{arith}
@@ -64,19 +64,26 @@ module _ (mark number : ℕ) where
   pub marked-faulty : (mark ≡ 0 → ⊥) → faultOf mark number ≡ 0 → ⊥
   marked-faulty m z = elim standing [ fits e g f ↦ m e | overflowed e n g f ↦ omega arith | bad b g f ↦ omega arith ]
 
-  -- 6 and 14 are no place's
-  pub fault-not-6 : faultOf mark number ≡ 6 → ⊥
-  fault-not-6 e =
+  -- it is 0, 3 or 15: so 6 and 14 are no place's
+  fault-not : (c : ℕ) → (c ≡ 0 → ⊥) → (c ≡ 3 → ⊥) → (c ≡ 15 → ⊥) → faultOf mark number ≡ c → ⊥
+  fault-not c m n o e =
       elim standing [
-        | fits z g f ↦ omega arith
-        | overflowed m z g f ↦ omega arith
-        | bad b g f ↦ omega arith
+        | fits z g f ↦ m (sym e ∙ f)
+        | overflowed a z g f ↦ n (sym e ∙ f)
+        | bad b g f ↦ o (sym e ∙ f)
       ]
 
+  pub fault-not-6 : faultOf mark number ≡ 6 → ⊥
+  fault-not-6 = fault-not 6 (λ e. omega arith) (λ e. omega arith) (λ e. omega arith)
+
   pub fault-not-14 : faultOf mark number ≡ 14 → ⊥
-  fault-not-14 e =
+  fault-not-14 = fault-not 14 (λ e. omega arith) (λ e. omega arith) (λ e. omega arith)
+
+  -- 15 is a bad mark's alone, in a scan and by the mark alone
+  pub bad-only : (markFault mark number ≡ 15) ⊎ (faultOf mark number ≡ 15) → BadMark mark number
+  bad-only f =
       elim standing [
-        | fits z g f ↦ omega arith
-        | overflowed m z g f ↦ omega arith
-        | bad b g f ↦ omega arith
+        | fits z g h ↦ absurd (⊎-elim (λ e. omega arith) (λ e. omega arith) f)
+        | overflowed e z g h ↦ absurd (⊎-elim (λ o. omega arith) (λ o. omega arith) f)
+        | bad b g h ↦ b
       ]

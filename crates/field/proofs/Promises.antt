@@ -13,7 +13,7 @@ use Rattle.whole.specs.logarithm.{log-of}
 use Rattle.places.specs.Faults.{NoFaultBefore}
 use Rattle.field.specs.Field.{markFault, faultOf, faultAt, BadMark, EndsAt}
 use Rattle.field.specs.Range.{Holds, packingWidth, refused, rangeOf, scanOf}
-use Rattle.field.proofs.Faults.{fits, overflowed, bad, standing, unmarked-faults, overflowed-faults, bad-faults, fault-not-6, fault-not-14}
+use Rattle.field.proofs.Faults.{fits, overflowed, bad, standing, unmarked-faults, overflowed-faults, bad-faults, bad-only, fault-not-6, fault-not-14}
 use Rattle.field.proofs.Ranges.{least-bound, greatest-bound, least-held, greatest-held}
 use Rattle.field.proofs.Widths.{width-bound, width-least}
 use Rattle.field.proofs.Scans.{unequal, empty, ended, whole, stage, at-unequal, at-empty, at-range, at-fault-exactly}
@@ -36,15 +36,7 @@ module _ (mark number : ℕ) where
 
   -- and 15 exactly when the mark is neither 0 nor 1, or it is 1 and the number isn't 0
   pub mark-fault-15-exactly : (markFault mark number ≡ 15) ↔ BadMark mark number
-  mark-fault-15-exactly = (only, λ b. bad-faults mark number b .0)
-    where
-      only : markFault mark number ≡ 15 → BadMark mark number
-      only f =
-          elim (standing mark number) [
-            | fits z g h ↦ let a : ⊥ = omega arith in absurd a
-            | overflowed e z g h ↦ let a : ⊥ = omega arith in absurd a
-            | bad b g h ↦ b
-          ]
+  mark-fault-15-exactly = (λ f. bad-only mark number (inl f), λ b. bad-faults mark number b .0)
 
   -- in a scan, none exactly when the mark is 0
   pub fault-0-exactly : (faultOf mark number ≡ 0) ↔ (mark ≡ 0)
@@ -60,15 +52,7 @@ module _ (mark number : ℕ) where
 
   -- 15 exactly when the mark is neither 0 nor 1, or it is 1 and the number isn't 0
   pub fault-15-exactly : (faultOf mark number ≡ 15) ↔ BadMark mark number
-  fault-15-exactly = (only, λ b. bad-faults mark number b .1)
-    where
-      only : faultOf mark number ≡ 15 → BadMark mark number
-      only f =
-          elim (standing mark number) [
-            | fits z g h ↦ let a : ⊥ = omega arith in absurd a
-            | overflowed e z g h ↦ let a : ⊥ = omega arith in absurd a
-            | bad b g h ↦ b
-          ]
+  fault-15-exactly = (λ f. bad-only mark number (inr f), λ b. bad-faults mark number b .1)
 
   -- 3 exactly when the mark is 1 and the number is 0
   pub fault-3-exactly : (faultOf mark number ≡ 3) ↔ ((mark ≡ 1) × (number ≡ 0))

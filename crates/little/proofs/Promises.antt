@@ -6,4 +6,5 @@ use mathlib.Core.List.{List}
 use Prim.Native.Nat.{ℕ, _^_, _<_}
 use lib.ListN.{length}
 use Rattle.little.specs.Bytes.{byteAt, Bytes, little, bytesOf, byteOf}
+pub use Rattle.little.proofs.Stored.{put-stored, put-nowhere}
 pub use Rattle.little.proofs.Little.{little-bytes, bytes-little, little-below, length-bytes, bytes-below}

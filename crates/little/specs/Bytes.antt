@@ -1,8 +1,10 @@
 -- Numbers as bytes, little-endian: the lowest byte first.
 -- Assumes nothing.
-use mathlib.Core.List.{List, [], _∷_}
+use mathlib.Core.Bool.{cond}
+use mathlib.Core.List.{List, [], _∷_, _++_}
 use Prim.Native.Nat.{ℕ, zero, suc, _+_, _*_, _/_, _%_, _^_, _<_}
-use lib.ListN.{getD, take, drop}
+use lib.Dec.{leb}
+use lib.ListN.{length, getD, take, drop}
 
 abbrev pub byteAt : List ℕ → ℕ → ℕ
 byteAt bs i = getD bs i 0
@@ -28,3 +30,8 @@ bytesOf (suc k) n = n % 256 ∷ bytesOf k (n / 256)
 -- byte j of a number
 abbrev pub byteOf : ℕ → ℕ → ℕ
 byteOf n j = n / 256 ^ j % 256
+
+-- a list with these bytes stored in it from place `at` on; a list without room for them stays
+unfoldable pub put : ℕ → List ℕ → List ℕ → List ℕ
+put at bytes old =
+    cond (leb (at + length bytes) (length old)) (take at old ++ bytes ++ drop (at + length bytes) old) old

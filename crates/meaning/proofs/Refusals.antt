@@ -108,21 +108,22 @@ by-fit o a true true l r both = both (refl, refl)
 by-fit o a true false l r both = overflowed (a, refl) (overflowing o true false l r (a, refl))
 by-fit o a false t l r both = overflowed (a, refl) (overflowing o false t l r (a, refl))
 
+-- a quotient and a remainder, by whether the divisor is 0
+divided
+    : (o : Operation) → AsksFitting o → (s t : Bool) (l r : ℕ) → (r ≡ 0 → ByZero o r) →
+    (BothFit s t → (r ≡ 0 → ⊥) → Passes o s t l r) → Row o s t l r
+divided o a s t l r zero other =
+    by-fit o a s t l r
+    (λ b. elim (ℕ-discrete r 0) [
+      | yes z ↦ by-zero (zero z) b (zero-divides o s t l r (zero z) b)
+      | no n ↦ passes (other b n) (passing o s t l r (other b n))
+    ])
+
 pub row : (o : Operation) (s t : Bool) (l r : ℕ) → Row o s t l r
 row sum s t l r = passes tt refl
 row product s t l r = passes tt refl
-row quotient s t l r =
-    by-fit quotient tt s t l r
-    (λ b. elim (ℕ-discrete r 0) [
-      | yes z ↦ by-zero z b (zero-divides quotient s t l r z b)
-      | no n ↦ passes (b, n) (passing quotient s t l r (b, n))
-    ])
-row remainder s t l r =
-    by-fit remainder tt s t l r
-    (λ b. elim (ℕ-discrete r 0) [
-      | yes z ↦ by-zero z b (zero-divides remainder s t l r z b)
-      | no n ↦ passes (b, n) (passing remainder s t l r (b, n))
-    ])
+row quotient s t l r = divided quotient tt s t l r (λ z. z) (λ b n. (b, n))
+row remainder s t l r = divided remainder tt s t l r (λ z. z) (λ b n. (b, n))
 row power s t l r = by-fit power tt s t l r (λ b. passes b (passing power s t l r b))
 row logarithm s t l r =
     by-fit logarithm tt s t l r

@@ -7,6 +7,7 @@ use native.Mathlib.Omega.{arith}
 use native.Mathlib.Numerals.{add-one}
 use Rattle.checked.specs.declared.types.Checked64.the-variants.{Fits}
 use Rattle.checked.specs.Value.{Value}
+use Rattle.steps.specs.declared.types.Phase.{Phase}
 use Rattle.steps.specs.declared.types.Phase.the-variants.{InPower, InLogarithm}
 use Rattle.steps.specs.declared.types.Power.{Power}
 use Rattle.steps.specs.declared.types.Logarithm.{Logarithm}
@@ -38,13 +39,21 @@ module _ (M a t : ℕ) where
     one-less : a - t ≡ suc (a - suc t)
     one-less = omega arith
 
+    -- a phase whose step comes to s
+    steps-so
+        : (p : Phase) (s : Outcome) → ((k : ℕ) → goneOn M k (suc t) s ≡ goneOn M (suc k) t (within p)) →
+        (o : Outcome) → o ≡ s → goneOn M (a - (t + 1)) (t + 1) o ≡ goneOn M (a - t) t (within p)
+    steps-so p s more o e =
+        ap (λ n. goneOn M (a - n) n o) (add-one t)
+        ∙ ap (goneOn M (a - suc t) (suc t)) e
+        ∙ more (a - suc t)
+        ∙ ap (λ k. goneOn M k t (within p)) (sym one-less)
+
     power-steps
         : (p : Power) (o : Outcome) → o ≡ powerStep M (p .first) (p .second) (p .exponent) →
         goneOn M (a - (t + 1)) (t + 1) o ≡ goneOn M (a - t) t (within (InPower p))
     unfolding goneOn
-    power-steps p o e =
-        ap (λ n. goneOn M (a - n) n o) (add-one t) ∙ ap (goneOn M (a - suc t) (suc t)) e
-        ∙ ap (λ k. goneOn M k t (within (InPower p))) (sym one-less)
+    power-steps p = steps-so (InPower p) (powerStep M (p .first) (p .second) (p .exponent)) (λ k. refl)
 
     pub power-value
         : (p : Power) (v : Value) → value v ≡ powerStep M (p .first) (p .second) (p .exponent) →
@@ -60,9 +69,7 @@ module _ (M a t : ℕ) where
         : (q : Logarithm) (o : Outcome) → o ≡ logarithmStep (q .base) (q .left) (q .count) →
         goneOn M (a - (t + 1)) (t + 1) o ≡ goneOn M (a - t) t (within (InLogarithm q))
     unfolding goneOn
-    logarithm-steps q o e =
-        ap (λ n. goneOn M (a - n) n o) (add-one t) ∙ ap (goneOn M (a - suc t) (suc t)) e
-        ∙ ap (λ k. goneOn M k t (within (InLogarithm q))) (sym one-less)
+    logarithm-steps q = steps-so (InLogarithm q) (logarithmStep (q .base) (q .left) (q .count)) (λ k. refl)
 
     pub logarithm-value
         : (q : Logarithm) → q .left / q .base < q .base →

@@ -4,16 +4,18 @@ use mathlib.Core.Path.{_≡_, sym, ap, _∙_}
 use mathlib.Core.Bool.{false, cond}
 use mathlib.Core.List.{List, _++_}
 use Prim.Native.Nat.{ℕ, _≤_, _<_}
+use native.Mathlib.Omega.{arith}
 use borrow.Author.Tests.{lt-ltb, le-ltb, eq-eqb}
 use lib.Dec.{eqb}
 use lib.ListN.{length, drop}
-use lib.Seq.{sets, sets-eq}
+use lib.Seq.{sets, length-sets, sets-eq}
 use Rattle.checked.specs.declared.refusal.Refusal.{Refusal}
 use Rattle.checked.specs.declared.types.Checked64.the-variants.{Fits, Overflowed}
 use Rattle.checked.specs.Value.{Value}
 use Rattle.checked.specs.Paper.{Paper, given, refused, numberOf}
 use Rattle.checked.proofs.Unique.{not-zero}
-use Rattle.little.specs.Bytes.{bytesOf}
+use Rattle.little.specs.Bytes.{bytesOf, put}
+use Rattle.little.proofs.Stored.{put-stored}
 use Rattle.razovinto.specs.Entry.{markBytes, resultBytes, returned, afterwards}
 
 -- ---- what is returned
@@ -57,13 +59,19 @@ value-returns Overflowed result h = roomy-returns (given Overflowed) result h
 
 -- the number written, and then its mark, are the value's 16 bytes
 pub value-written
-    : (v : Value) (result : List ℕ) {half whole : List ℕ}
-    → 16 ≤ length result
-    → half ≡ sets result 0 (bytesOf 8 (given v .number)) → whole ≡ sets half 8 (markBytes (given v .mark)) → whole ≡ afterwards (given v) result
+    : (v : Value) (result : List ℕ) {half whole : List ℕ} (mark : ℕ) → 16 ≤ length result →
+    bytesOf 8 mark ≡ markBytes (given v .mark) → half ≡ put 0 (bytesOf 8 (given v .number)) result →
+    whole ≡ put 8 (bytesOf 8 mark) half → whole ≡ afterwards (given v) result
 unfolding bytesOf
-value-written v result h number mark =
+value-written v result {half} mark h e number marked =
     let p = given v in
-    mark ∙ ap (λ l. sets l 8 (markBytes (p .mark))) number ∙ sets-eq (resultBytes (p .number) (p .mark)) result 0 h
+    let first = number ∙ put-stored 0 (bytesOf 8 (p .number)) result (omega arith) in
+    let room : 16 ≤ length half = omega (arith, ap length first, length-sets result 0 (bytesOf 8 (p .number))) in
+    marked
+    ∙ ap (λ m. put 8 m half) e
+    ∙ put-stored 8 (markBytes (p .mark)) half (omega arith)
+    ∙ ap (λ l. sets l 8 (markBytes (p .mark))) first
+    ∙ sets-eq (resultBytes (p .number) (p .mark)) result 0 h
     ∙ answered-written p result (sym (value-returns v result h))
 
 -- ---- what is true of an answer is true of the answer that it equals

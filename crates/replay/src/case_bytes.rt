@@ -17,15 +17,16 @@ pub fn word(bytes: &[u8], at: usize) -> u32
 pub fn long(bytes: &[u8], at: usize) -> u64
     requires { ⌜ at + 8 ≤ length (now bytes) ⌝ }
 {
+    let eight = &bytes[at..];
     little::bytes::long(
-        bytes[at],
-        bytes[at + 1],
-        bytes[at + 2],
-        bytes[at + 3],
-        bytes[at + 4],
-        bytes[at + 5],
-        bytes[at + 6],
-        bytes[at + 7],
+        eight[0],
+        eight[1],
+        eight[2],
+        eight[3],
+        eight[4],
+        eight[5],
+        eight[6],
+        eight[7],
     )
 }
 

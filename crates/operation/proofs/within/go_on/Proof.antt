@@ -1,9 +1,10 @@
 -- `within::go_on` meets its contract.
 -- Assumes nothing.
-use mathlib.Core.Path.{_≡_, _∙_, ap, sym, subst}
+use mathlib.Core.Path.{subst}
 use Prim.Native.Nat.{_-_}
 use Rattle.checked.specs.Paper.{numberOf}
-use Rattle.operation.specs.Work.{outcome, SoundOutcome, goneOn, reachOf}
+use Rattle.checked.proofs.Arms.{at}
+use Rattle.operation.specs.Work.{outcome, SoundOutcome, goneOn}
 use Rattle.operation.proofs.Going.{value-stays, refusal-stays}
 use borrow.Author.Needs.{needs}
 use Rattle.operation.proofs.within.go_on.Statement.{statement}
@@ -25,22 +26,21 @@ returns : tie.Need-returns
 returns c =
     let g = c .before .before .before .args in
     let v = c .before .o .given in
-    value-stays (g .limit) (g .allowance - g .from) (g .from) (v .0 .0)
-    ∙ ap (λ o. goneOn (g .limit) (g .allowance - g .from) (g .from) (outcome o)) (sym (v .1))
+    at (λ o. goneOn (g .limit) (g .allowance - g .from) (g .from) (outcome o))
+    (value-stays (g .limit) (g .allowance - g .from) (g .from) (v .0 .0)) (v .1)
 
 returns-2 : tie.Need-returns-2
 returns-2 c =
     let g = c .before .before .before .before .args in
-    let left = g .allowance - g .from in
-    subst (λ o. reachOf (g .from) (c .phase-on .result) ≡ goneOn (g .limit) left (g .from) (outcome o))
-    (sym (c .before .before .o2 .given .1)) (c .phase-on .ensures)
+    at (λ o. goneOn (g .limit) (g .allowance - g .from) (g .from) (outcome o))
+    (c .phase-on .ensures) (c .before .before .o2 .given .1)
 
 returns-3 : tie.Need-returns-3
 returns-3 c =
     let g = c .before .before .before .args in
     let v = c .before .o3 .given in
-    refusal-stays (g .limit) (g .allowance - g .from) (g .from) (numberOf (v .0 .0))
-    ∙ ap (λ o. goneOn (g .limit) (g .allowance - g .from) (g .from) (outcome o)) (sym (v .1))
+    at (λ o. goneOn (g .limit) (g .allowance - g .from) (g .from) (outcome o))
+    (refusal-stays (g .limit) (g .allowance - g .from) (g .from) (numberOf (v .0 .0))) (v .1)
 
 pub go-on-spec : {M : Type 1} → statement M
 go-on-spec =

@@ -1,9 +1,10 @@
 -- `within::phase_on` meets its contract.
 -- Assumes nothing.
-use mathlib.Core.Path.{_≡_, sym, subst}
+use mathlib.Core.Path.{subst}
 use Prim.Native.Nat.{_-_}
+use Rattle.checked.proofs.Arms.{at}
 use Rattle.steps.specs.Steps.{within}
-use Rattle.operation.specs.Work.{Sound, goneOn, reachOf}
+use Rattle.operation.specs.Work.{Sound, goneOn}
 use borrow.Author.Needs.{needs}
 use Rattle.operation.proofs.within.phase_on.Statement.{statement}
 use Rattle.operation.proofs.within.phase_on.Tie as tie
@@ -29,16 +30,14 @@ returns c = absurd (subst Sound (c .enum-told .given .1) (c .before .before .pre
 returns-2 : tie.Need-returns-2
 returns-2 c =
     let g = c .before .before .before .before .args in
-    let left = g .allowance - g .from in
-    subst (λ p. reachOf (g .from) (c .power-on .result) ≡ goneOn (g .limit) left (g .from) (within p))
-    (sym (c .before .before .phase .given .1)) (c .power-on .ensures)
+    at (λ p. goneOn (g .limit) (g .allowance - g .from) (g .from) (within p))
+    (c .power-on .ensures) (c .before .before .phase .given .1)
 
 returns-3 : tie.Need-returns-3
 returns-3 c =
     let g = c .before .before .before .before .args in
-    let left = g .allowance - g .from in
-    subst (λ p. reachOf (g .from) (c .logarithm-on .result) ≡ goneOn (g .limit) left (g .from) (within p))
-    (sym (c .before .before .phase2 .given .1)) (c .logarithm-on .ensures (g .limit))
+    at (λ p. goneOn (g .limit) (g .allowance - g .from) (g .from) (within p))
+    (c .logarithm-on .ensures (g .limit)) (c .before .before .phase2 .given .1)
 
 pub phase-on-spec : {M : Type 1} → statement M
 phase-on-spec =
