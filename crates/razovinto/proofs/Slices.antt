@@ -15,7 +15,7 @@ use Rattle.checked.specs.Value.{Value}
 use Rattle.checked.specs.Paper.{Paper, given, refused, numberOf}
 use Rattle.checked.proofs.Unique.{not-zero}
 use Rattle.little.specs.Bytes.{bytesOf, put}
-use Rattle.little.proofs.Stored.{put-stored}
+use Rattle.little.proofs.Stored.{put-stored, put-later-first}
 use Rattle.razovinto.specs.Entry.{markBytes, resultBytes, returned, afterwards}
 
 -- ---- what is returned
@@ -57,22 +57,30 @@ pub value-returns : (v : Value) (result : List ℕ) → 16 ≤ length result →
 value-returns (Fits n) result h = roomy-returns (given (Fits n)) result h
 value-returns Overflowed result h = roomy-returns (given Overflowed) result h
 
--- the number written, and then its mark, are the value's 16 bytes
-pub value-written
-    : (v : Value) (result : List ℕ) {half whole : List ℕ} (mark : ℕ) → 16 ≤ length result →
-    bytesOf 8 mark ≡ markBytes (given v .mark) → half ≡ put 0 (bytesOf 8 (given v .number)) result →
-    whole ≡ put 8 (bytesOf 8 mark) half → whole ≡ afterwards (given v) result
+-- a number written, and then the mark 0, are a fitting value's 16 bytes
+pub fitting-written
+    : (n : ℕ) (result : List ℕ) {half whole : List ℕ} → 16 ≤ length result →
+    half ≡ put 0 (bytesOf 8 n) result → whole ≡ put 8 (bytesOf 8 0) half → whole ≡ afterwards (given (Fits n)) result
 unfolding bytesOf
-value-written v result {half} mark h e number marked =
-    let p = given v in
-    let first = number ∙ put-stored 0 (bytesOf 8 (p .number)) result (omega arith) in
-    let room : 16 ≤ length half = omega (arith, ap length first, length-sets result 0 (bytesOf 8 (p .number))) in
-    marked
-    ∙ ap (λ m. put 8 m half) e
-    ∙ put-stored 8 (markBytes (p .mark)) half (omega arith)
-    ∙ ap (λ l. sets l 8 (markBytes (p .mark))) first
-    ∙ sets-eq (resultBytes (p .number) (p .mark)) result 0 h
-    ∙ answered-written p result (sym (value-returns v result h))
+fitting-written n result {half} h number mark =
+    let first = number ∙ put-stored 0 (bytesOf 8 n) result (omega arith) in
+    let room : 16 ≤ length half = omega (arith, ap length first, length-sets result 0 (bytesOf 8 n)) in
+    mark
+    ∙ put-stored 8 (markBytes 0) half (omega arith)
+    ∙ ap (λ l. sets l 8 (markBytes 0)) first
+    ∙ sets-eq (resultBytes n 0) result 0 h
+    ∙ answered-written (given (Fits n)) result (sym (value-returns (Fits n) result h))
+
+-- the mark 1 written, and then the number 0, are an overflowed value's
+pub overflowed-written
+    : (result : List ℕ) {half whole : List ℕ} → 16 ≤ length result →
+    half ≡ put 8 (bytesOf 8 1) result → whole ≡ put 0 (bytesOf 8 0) half → whole ≡ afterwards (given Overflowed) result
+unfolding bytesOf
+overflowed-written result h mark number =
+    number
+    ∙ ap (put 0 (bytesOf 8 0)) mark
+    ∙ put-later-first (bytesOf 8 0) (markBytes 1) result h
+    ∙ answered-written (given Overflowed) result (sym (value-returns Overflowed result h))
 
 -- ---- what is true of an answer is true of the answer that it equals
 

@@ -1,12 +1,9 @@
 -- `result::put_value` meets its contract.
 -- Assumes nothing.
-use mathlib.Core.Path.{refl}
-use Rattle.checked.specs.declared.types.Checked64.the-variants.{Fits, Overflowed}
 use Rattle.checked.specs.Paper.{given}
 use Rattle.checked.proofs.Arms.{at}
-use Rattle.little.specs.Bytes.{bytesOf}
 use Rattle.razovinto.specs.Entry.{afterwards}
-use Rattle.razovinto.proofs.Slices.{value-written}
+use Rattle.razovinto.proofs.Slices.{fitting-written, overflowed-written}
 use borrow.Author.Needs.{needs}
 use Rattle.razovinto.proofs.result.put_value.Statement.{statement}
 use Rattle.razovinto.proofs.result.put_value.Tie as tie
@@ -33,27 +30,25 @@ same-length : tie.Need-same-length
 same-length c = search needs
 
 returns : tie.Need-returns
-unfolding bytesOf
 returns c =
     let s = c .before .before .before .before .before .before .before .before .before .before .before .before in
     let r = s .args .result .now in
     let v = c .before .before .before .before .before .before .before .before .before .value .given in
     let number = c .before .before .before .before .before .before .put-long .ensures in
     at (λ x. afterwards (given x) r)
-    (value-written (Fits (v .0 .0)) r 0 (s .pre) refl number (c .before .before .put-long2 .ensures)) (v .1)
+    (fitting-written (v .0 .0) r (s .pre) number (c .before .before .put-long2 .ensures)) (v .1)
 
 same-length-2 : tie.Need-same-length-2
 same-length-2 c = search needs
 
 returns-2 : tie.Need-returns-2
-unfolding bytesOf
 returns-2 c =
     let s = c .before .before .before .before .before .before .before .before .before .before .before in
     let r = s .args .result .now in
     let e = c .before .before .before .before .before .before .before .before .enum-told .given .1 in
-    let number = c .before .before .before .before .before .before .put-long3 .ensures in
+    let mark = c .before .before .before .before .before .before .put-long3 .ensures in
     at (λ x. afterwards (given x) r)
-    (value-written Overflowed r 1 (s .pre) refl number (c .before .before .put-long4 .ensures)) e
+    (overflowed-written r (s .pre) mark (c .before .before .put-long4 .ensures)) e
 
 pub put-value-spec : {M : Type 1} → statement M
 put-value-spec =
