@@ -27,6 +27,9 @@ use Rattle.layout.proofs.Faults.{other-layout, sound, stage, sound-part
 use Rattle.layout.proofs.Faults.{short, room, read-stage}
 use Rattle.layout.proofs.Layouts.{sound-exactly}
 
+-- what edition 1's head says: 6..7 zero
+pub use Rattle.layout.proofs.Layouts.{head-of-one}
+
 -- ---- the check
 
 -- it is below 2^32, so nothing wraps
