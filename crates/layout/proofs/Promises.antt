@@ -26,7 +26,6 @@ use Rattle.layout.proofs.Faults.{length-fault, check-fault, layout-faul
 use Rattle.layout.proofs.Faults.{other-layout, sound, stage, sound-parts, read-fault, read-sound, faulty}
 use Rattle.layout.proofs.Faults.{short, room, read-stage}
 use Rattle.layout.proofs.Layouts.{sound-exactly}
-
 -- what edition 1's head says: 6..7 zero
 pub use Rattle.layout.proofs.Layouts.{head-of-one}
 
