@@ -7,7 +7,7 @@ use native.Mathlib.Nat.{add-zero, add-suc}
 use native.Mathlib.Omega.{arith}
 use lib.ListN.{length, take}
 use lib.Seq.{drop-cons}
-use Rattle.little.specs.Bytes.{byteAt, part, little}
+use Rattle.little.specs.Bytes.{byteAt, part}
 
 module _ (at : ℕ) (b : List ℕ) where
   -- the first byte of a part, and those after it
