@@ -17,7 +17,9 @@ ghost use Rattle.block.specs.Answers.{reading};
 fn values(block: &[u8], numbers: &mut [u64], marks: &mut [u8]) -> Read
     requires { ⌜ faultOf (now block) ≡ 0 ⌝ }
     ensures { λ r. ⌜ reading r ≡ readingOf (now (block .entry)) (now (numbers .entry)) (now (marks .entry)) ⌝ }
-    ensures { λ r. ⌜ now (numbers .exit) ≡ numbersAfter (now (block .entry)) (now (numbers .entry)) (now (marks .entry)) ⌝ }
+    ensures { λ r. ⌜
+        now (numbers .exit) ≡ numbersAfter (now (block .entry)) (now (numbers .entry)) (now (marks .entry))
+        ⌝ }
     ensures { λ r. ⌜ now (marks .exit) ≡ marksAfter (now (block .entry)) (now (numbers .entry)) (now (marks .entry)) ⌝ }
 {
     let count = block[4] as usize;
@@ -38,7 +40,9 @@ fn values(block: &[u8], numbers: &mut [u64], marks: &mut [u8]) -> Read
 // The block's number and count, with its values written; or 16, 17, 18 or 19.
 pub fn read(block: &[u8], numbers: &mut [u64], marks: &mut [u8]) -> Read
     ensures { λ r. ⌜ reading r ≡ readingOf (now (block .entry)) (now (numbers .entry)) (now (marks .entry)) ⌝ }
-    ensures { λ r. ⌜ now (numbers .exit) ≡ numbersAfter (now (block .entry)) (now (numbers .entry)) (now (marks .entry)) ⌝ }
+    ensures { λ r. ⌜
+        now (numbers .exit) ≡ numbersAfter (now (block .entry)) (now (numbers .entry)) (now (marks .entry))
+        ⌝ }
     ensures { λ r. ⌜ now (marks .exit) ≡ marksAfter (now (block .entry)) (now (numbers .entry)) (now (marks .entry)) ⌝ }
 {
     match sound(block) {

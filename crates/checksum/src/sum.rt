@@ -14,7 +14,8 @@ ghost use Rattle.checksum.specs.Rows.{Small, allMore, rowsMore, columnWe
 // One row more, the 64 bytes from place `at` on.
 fn add_row(b: &[u8], at: usize, all: &mut [u16; 64], rows: &mut [u16; 64])
     requires { ⌜ (at + 64 ≤ length (now b)) × (length (now b) ≤ blockLength) × Small (now all) (now rows) ⌝ }
-    ensures { λ r. ⌜ (now (all .exit) ≡ allMore (now (b .entry)) at (now (all .entry))) × (now (rows .exit) ≡ rowsMore (now (all .entry)) (now (rows .entry))) ⌝ }
+    ensures { λ r. ⌜ now (all .exit) ≡ allMore (now (b .entry)) at (now (all .entry)) ⌝ }
+    ensures { λ r. ⌜ now (rows .exit) ≡ rowsMore (now (all .entry)) (now (rows .entry)) ⌝ }
 {
     let mut j = 0;
     while j < 64 {

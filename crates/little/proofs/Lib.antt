@@ -1,5 +1,6 @@
 -- Laws on numbers as bytes: `Little` there and back, `Listed` bytes given one by one, `Zeros` and `Joined` on bytes
--- that are zero, `Changed` on one byte changed, `Stored` on bytes stored in a list. `Promises` says what the functions promise.
+-- that are zero, `Changed` on one byte changed, `Stored` on bytes stored in a list. `Promises` says what the
+-- functions promise.
 pub mod Little
 pub mod Listed
 pub mod Zeros

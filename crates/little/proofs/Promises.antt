@@ -1,5 +1,5 @@
--- What numbers as bytes promise. The functions' contracts give the number, the byte or the list itself, so each leaves one
--- answer.
+-- What numbers as bytes promise. The functions' contracts give the number, the byte or the list itself, so each
+-- leaves one answer.
 -- Assumes nothing.
 -- there and back: a number from its bytes, and bytes from their number
 pub use Rattle.little.proofs.Little.{little-bytes, bytes-little, little-below, length-bytes, bytes-below}

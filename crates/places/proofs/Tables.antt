@@ -19,7 +19,10 @@ unfolding table
 table-at f zero j h = absurd (omega arith)
 table-at f (suc n) j h =
     elim (ℕ-discrete n j) [
-      | yes p ↦ ap (λ i. getD (table f n ++ (f n ∷ [])) i 0) (sym p) ∙ getD-at (table f n) (f n) [] 0 n (length-table f n) ∙ ap f p
+      | yes p ↦
+          ap (λ i. getD (table f n ++ (f n ∷ [])) i 0) (sym p)
+          ∙ getD-at (table f n) (f n) [] 0 n (length-table f n)
+          ∙ ap f p
       | no q ↦
           let l : j < length (table f n) = omega (arith, length-table f n) in
           List·getD-append (table f n) (f n ∷ []) 0 j l ∙ table-at f n j (omega arith)

@@ -63,7 +63,8 @@ total-swapped f (suc m) n =
 -- its row
 pub by-columns
     : (f : ℕ → ℕ) (w h : ℕ) →
-    total (λ j. w * total (λ q. q * f (w * q + j)) h + suc j * total (λ q. f (w * q + j)) h) w ≡ total (λ i. suc i * f i) (w * h)
+    total (λ j. w * total (λ q. q * f (w * q + j)) h + suc j * total (λ q. f (w * q + j)) h) w
+    ≡ total (λ i. suc i * f i) (w * h)
 by-columns f w h =
     total-same (λ j. w * total (λ q. q * f (w * q + j)) h + suc j * total (λ q. f (w * q + j)) h)
     (λ j. total (λ q. suc (w * q + j) * f (w * q + j)) h) w (λ j l. column j)
@@ -72,13 +73,15 @@ by-columns f w h =
   where
     column
         : (j : ℕ) →
-        w * total (λ q. q * f (w * q + j)) h + suc j * total (λ q. f (w * q + j)) h ≡ total (λ q. suc (w * q + j) * f (w * q + j)) h
+        w * total (λ q. q * f (w * q + j)) h + suc j * total (λ q. f (w * q + j)) h
+        ≡ total (λ q. suc (w * q + j) * f (w * q + j)) h
     column j =
         let rows = total-times w (λ q. q * f (w * q + j)) h in
         let column-number = total-times (suc j) (λ q. f (w * q + j)) h in
         let both = total-sum (λ q. w * (q * f (w * q + j))) (λ q. suc j * f (w * q + j)) h in
         let same =
-        total-same (λ q. w * (q * f (w * q + j)) + suc j * f (w * q + j)) (λ q. suc (w * q + j) * f (w * q + j)) h (λ q l. omega arith) in
+        total-same (λ q. w * (q * f (w * q + j)) + suc j * f (w * q + j)) (λ q. suc (w * q + j) * f (w * q + j)) h
+        (λ q l. omega arith) in
         omega arith
 
 -- ---- bounds

@@ -1,6 +1,6 @@
 -- The whole search by its stages: the run's length, a bad block, an overflowed place, none.
 -- Assumes nothing.
-use mathlib.Core.Path.{_≡_, ap, sym, _∙_}
+use mathlib.Core.Path.{_≡_, ap, _∙_}
 use mathlib.Core.Bool.{cond}
 use mathlib.Core.List.{List}
 use Prim.Native.Nat.{ℕ, _%_, _<_}
@@ -13,7 +13,7 @@ use Rattle.places.proofs.Faults.{walk, faulty-at, faultless, answer-at, answer-
 use Rattle.layout.specs.Editions.{blockLength}
 use Rattle.layout.specs.Sound.{faultOf}
 use Rattle.layout.specs.Runs.{blocks, blockAt, Whole}
-use Rattle.search.specs.Search.{Searched, refused, none, foundAt, firstOverflowed, OverflowsFirstAt}
+use Rattle.search.specs.Search.{refused, none, foundAt, firstOverflowed, OverflowsFirstAt}
 use Rattle.search.specs.Search.{QuietBefore, endedAt, endAt, searchBlocks, searchOf}
 use Rattle.search.proofs.Ends.{first-overflowed, ends-at-bad, ends-at-overflowed, passes-quiet, quiet-passed}
 use Rattle.search.proofs.Ends.{quiet, bad, overflowed, kind}

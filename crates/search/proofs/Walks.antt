@@ -60,10 +60,11 @@ module _
         ∙ sym (at-bad run p (whole-run run n whole) (there h) (λ e. z (sym f ∙ e)) (quiet-before run p passed))
 
     pub found-ends
-        : (i : ℕ) → p < n → faultOf (blockAt run p) ≡ 0 → OverflowsFirstAt (blockAt run p) i → foundAt p i ≡ searchOf run
+        : (i : ℕ) → p < n → faultOf (blockAt run p) ≡ 0 → OverflowsFirstAt (blockAt run p) i →
+        foundAt p i ≡ searchOf run
     found-ends i h z f = sym (at-overflowed run p i (whole-run run n whole) (there h) z f (quiet-before run p passed))
 
     pub none-ends : n ≤ p → none ≡ searchOf run
     none-ends h =
-        sym
-        (at-none run (whole-run run n whole) (λ q k. quiet-before run p passed q (omega (arith, blocks-are run n whole))))
+        let e = blocks-are run n whole in
+        sym (at-none run (whole-run run n whole) (λ q k. quiet-before run p passed q (omega arith)))

@@ -22,7 +22,7 @@ number-read b = refl
 
 shared-slice-read-count : tie.Need-shared-slice-read-count
 shared-slice-read-count c =
-    let s = sound-sizes one (c .before .before .before .before .args .block .now) (c .before .before .before .before .pre) in omega (arith, s)
+    let d = c .before .before .before .before in omega (arith, sound-sizes one (d .args .block .now) (d .pre))
 
 cast-count : tie.Need-cast-count
 cast-count c = omega (arith, c .shared-slice-known2 .given 4)

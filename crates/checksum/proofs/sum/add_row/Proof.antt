@@ -63,20 +63,14 @@ shared-slice-read-all c = search needs
 
 cast-all : tie.Need-cast-all Inv-loop μ-loop
 cast-all c =
-    omega (
-      arith,
-      c .shared-slice-known .given
-          (c .before .before .before .before .before .before .args .at + c .before .before .before .before .before .loop .j),
-    )
+    let d = c .before .before .before .before .before in
+    omega (arith, c .shared-slice-known .given (d .before .args .at + d .loop .j))
 
 add-all-2 : tie.Need-add-all-2 Inv-loop μ-loop
 add-all-2 c =
-    omega (
-      arith,
-      here (c .before .before .before .before),
-      c .shared-slice-known .given
-          (c .before .before .before .before .before .before .args .at + c .before .before .before .before .before .loop .j),
-    )
+    let d = c .before .before .before .before .before in
+    let small = here (c .before .before .before .before) in
+    omega (arith, small, c .shared-slice-known .given (d .before .args .at + d .loop .j))
 
 mul-all-2 : tie.Need-mul-all-2 Inv-loop μ-loop
 mul-all-2 c = search needs

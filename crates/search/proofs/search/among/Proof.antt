@@ -186,7 +186,10 @@ returns-2 c =
     (λ w.
     let d : tie.In-search Inv-loop μ-loop Inv-search μ-search = record { before = s; search-test = w .0 } in
     let t : tie.After-enum-told Inv-loop μ-loop Inv-search μ-search =
-    record { before = record { before = record { before = record { before = d; block = w .1 }; sound = w .2 }; match = w .3 }; enum-told = w .4 } in
+    record {
+      before = record { before = record { before = record { before = d; block = w .1 }; sound = w .2 }; match = w .3 };
+      enum-told = w .4;
+    } in
     let f : OverflowsFirstAt (block d) (w .8 .i) = (w .9 .taken, w .11 .taken, w .8 .inv .0) in
     ap (foundAt (position d)) (w .12)
     ∙ found-ends (run d) (blocks d) (s .before .before .pre) (position d) (s .search .inv .0) (w .8 .i) (w .0 .taken)
