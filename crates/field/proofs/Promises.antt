@@ -12,10 +12,12 @@ use Rattle.whole.specs.logarithm.{log-of}
 use Rattle.places.specs.Faults.{NoFaultBefore}
 use Rattle.field.specs.Field.{markFault, faultOf, faultAt, BadMark, EndsAt}
 use Rattle.field.specs.Range.{Holds, packingWidth, refused, rangeOf, scanOf}
-use Rattle.field.proofs.Faults.{fits, overflowed, bad, standing, unmarked-faults, overflowed-faults, bad-faults, bad-only, fault-not-6, fault-not-14}
+use Rattle.field.proofs.Faults.{fits, overflowed, bad, standing, unmarked-faults, overflowed-faults}
+use Rattle.field.proofs.Faults.{bad-faults, bad-only, fault-not-6, fault-not-14}
 use Rattle.field.proofs.Ranges.{least-bound, greatest-bound, least-held, greatest-held}
 use Rattle.field.proofs.Widths.{width-bound, width-least}
-use Rattle.field.proofs.Scans.{unequal, empty, ended, whole, stage, at-unequal, at-empty, at-range, at-fault-exactly}
+use Rattle.field.proofs.Scans.{unequal, empty, ended, whole, stage}
+use Rattle.field.proofs.Scans.{at-unequal, at-empty, at-range, at-fault-exactly}
 
 -- ---- a place's fault, by its mark and its number
 

@@ -9,8 +9,8 @@ ghost use lib.ListN.{length};
 ghost use Rattle.checked.specs.Paper.{paper, given};
 ghost use Rattle.razovinto.specs.Entry.{returned, afterwards};
 
-// A value's number, and its mark with seven zeros, which are the mark as a number of eight bytes: each becomes one store. The two
-// cases write in another order, so that the compiler keeps each apart with its own literals.
+// A value's number, and its mark with seven zeros, which are the mark as a number of eight bytes: each becomes one
+// store. The two cases write in another order, so that the compiler keeps each apart with its own literals.
 fn put_value(result: &mut [u8], value: Checked64)
     requires { ⌜ 16 ≤ length (now result) ⌝ }
     ensures { λ r. ⌜ now (result .exit) ≡ afterwards (given value) (now (result .entry)) ⌝ }

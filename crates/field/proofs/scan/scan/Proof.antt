@@ -29,7 +29,9 @@ returns-3 c =
     let d = u .before in
     let g = d .before .before .before .before .args in
     c .range .ensures
-    ∙ sym (at-unmarked (g .numbers .now) (g .marks .now) (d .before .if1 .left) (d .if2 .left) (sym (u .all-zero .ensures) ∙ c .before .if3 .taken))
+    ∙ sym
+    (at-unmarked (g .numbers .now) (g .marks .now) (d .before .if1 .left) (d .if2 .left)
+    (sym (u .all-zero .ensures) ∙ c .before .if3 .taken))
 
 first-marked-requires : tie.Need-first-marked-requires
 first-marked-requires c κs = sym (c .before .all-zero .ensures) ∙ c .if3 .left

@@ -1,4 +1,5 @@
--- `read_command::put_columns` is safe and ends. The invariant: `i` is within the numbers, and the line keeps its length.
+-- `read_command::put_columns` is safe and ends. The invariant: `i` is within the numbers, and the line keeps its
+-- length.
 -- Assumes nothing.
 use mathlib.Core.Path.{_≡_}
 use Prim.Native.Nat.{_≤_, _-_}

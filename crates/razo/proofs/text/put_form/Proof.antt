@@ -1,5 +1,5 @@
--- `text::put_form` is safe and ends. The invariant: `i` is within the form, at most as many numbers are used as bytes are passed, and
--- the line keeps its length.
+-- `text::put_form` is safe and ends. The invariant: `i` is within the form, at most as many numbers are used as bytes
+-- are passed, and the line keeps its length.
 -- Assumes nothing.
 use mathlib.Core.Path.{_≡_}
 use mathlib.Core.Logic.{⊎-elim}
@@ -10,7 +10,8 @@ use Rattle.razo.proofs.text.put_form.Statement.{statement}
 use Rattle.razo.proofs.text.put_form.Tie as tie
 
 abbrev Inv-loop : tie.InvT-loop
-Inv-loop line₀ from form numbers at₀ used₀ i₀ line at used i = (i ≤ length form) × (used ≤ i) × (length line ≡ length line₀)
+Inv-loop line₀ from form numbers at₀ used₀ i₀ line at used i =
+    (i ≤ length form) × (used ≤ i) × (length line ≡ length line₀)
 
 abbrev μ-loop : tie.MeasureT-loop
 μ-loop line₀ from form numbers at₀ used₀ i₀ line at used i = length form - i
