@@ -33,7 +33,7 @@ laid-below f (v ∷ hand) rest i h =
           laid-get f hand (f v ∷ rest) i 0 (omega arith) ∙ sym (ap (λ j. f (getD (v ∷ hand) j (Fits 0))) e)
     ]
 
-zeros-at : (n j : ℕ) → getD (replicate n 0) j 0 ≡ 0
+zeros-at : (n j : ℕ) → _≡_ {A = ℕ} (getD (replicate n 0) j 0) 0
 zeros-at zero j = refl
 zeros-at (suc n) zero = refl
 zeros-at (suc n) (suc j) = zeros-at n j

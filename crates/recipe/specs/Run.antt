@@ -116,7 +116,7 @@ runOf W ks ns allowance =
 
 -- a value of the width in numbers: it fits and is at most M, or it is overflowed and its number is 0
 abbrev pub ShowsValue : (M mark number : ℕ) → Type 0
-ShowsValue M mark number = ((mark ≡ 0) × (number ≤ M)) ⊎ ((mark ≡ 1) × (number ≡ 0))
+ShowsValue M mark n = ((mark ≡ 0) × (n ≤ M)) ⊎ ((mark ≡ 1) × (n ≡ 0))
 
 -- within a power both values are values of the width, and the exponent is from 1 to M
 abbrev pub ShowsPower : ℕ → List ℕ → Type 0
