@@ -1,6 +1,6 @@
--- What the run of a recipe promises, one named theorem for each promise, about `runOf`, which `recipe::run::run` equals
--- by its contract for any width, any two lists and any allowance. `Unique` says that no other answer meets that contract;
--- the lists are lent to be read, so that they can't change.
+-- What the run of a recipe promises, one named theorem for each promise, about `runOf`, which `recipe::run::run`
+-- equals by its contract for any width, any two lists and any allowance. `Unique` says that no other answer meets that
+-- contract; the lists are lent to be read, so that they can't change.
 -- Assumes nothing.
 use mathlib.Core.Path.{_≡_, refl, ap, ap₂, sym, _∙_, subst}
 use mathlib.Core.Logic.{_↔_, _⊎_, inl, inr, ⊎-elim}
@@ -58,13 +58,13 @@ module _ (W : ℕ) (ks ns : List ℕ) (well : WellFormed W ks ns) where
 
   -- ---- 2: too few steps
 
-  -- with a smaller allowance k, the state after k steps is going on with k steps taken, and it is what is shown, with 20
-  -- at the items wholly done
+  -- with a smaller allowance k, the state after k steps is going on with k steps taken, and it is what is shown, with
+  -- 20 at the items wholly done
   pub short-stops : (k : ℕ) → k < countOf W ks ns → StopsAt W ks ns k
   short-stops = courses.stops W ks ns well
 
-  -- whatever the allowance, the state that is reached keeps to the meaning: between items its hand is the meaning's hand
-  -- after the items done, and within one its numbers stand for the item's result
+  -- whatever the allowance, the state that is reached keeps to the meaning: between items its hand is the meaning's
+  -- hand after the items done, and within one its numbers stand for the item's result
   pub state-shows-meaning : (k : ℕ) → ShowsMeaning (limitOf W) (items ks ns) (stateAfter W ks ns k)
   state-shows-meaning k = stops.shows (limitOf W) k (items ks ns) (courses.good W ks ns well)
 
@@ -253,7 +253,8 @@ module _ (W : ℕ) (ks ns : List ℕ) (k : ℕ) where
   -- ---- 5: what is shown
 
   -- with any answer but 20 no items are done, every place is fitting 0, and the phase is between items
-  pub ended-shows-no-state : (code ≡ 20 → ⊥) → runOf W ks ns k ≡ ended (runOf W ks ns k .answer) (runOf W ks ns k .steps)
+  pub ended-shows-no-state
+      : (code ≡ 20 → ⊥) → runOf W ks ns k ≡ ended (runOf W ks ns k .answer) (runOf W ks ns k .steps)
   ended-shows-no-state n =
       elim (courses.view W ks ns k) [
         | courses.over a t r ↦ r ∙ ap₂ ended (ap (λ r. r .answer) (sym r)) (ap (λ r. r .steps) (sym r))
@@ -277,8 +278,8 @@ module _ (W : ℕ) (ks ns : List ℕ) (k : ℕ) where
         | courses.over a t r ↦ let f : ⊥ = omega (arith, ap (λ r. getD (r .phase) 0 0) r) in absurd f
         | courses.going-on d hand p rest g s r ↦
             subst (λ s. ShowsPower (limitOf W) (s .phase)) (sym r)
-            (shows-power (limitOf W) hand p (handAfter d [] (items ks ns)) (handAfter (suc d) [] (items ks ns)) (s .1)
-            (sym (ap (λ r. getD (r .phase) 0 0) r) ∙ e))
+            (shows-power (limitOf W) hand p (handAfter d [] (items ks ns)) (handAfter (suc d) [] (items ks ns))
+            (s .1) (sym (ap (λ r. getD (r .phase) 0 0) r) ∙ e))
       ]
 
   -- within a logarithm the base and what is left are at most M
@@ -288,6 +289,6 @@ module _ (W : ℕ) (ks ns : List ℕ) (k : ℕ) where
         | courses.over a t r ↦ let f : ⊥ = omega (arith, ap (λ r. getD (r .phase) 0 0) r) in absurd f
         | courses.going-on d hand p rest g s r ↦
             subst (λ s. ShowsLogarithm (limitOf W) (s .phase)) (sym r)
-            (shows-logarithm (limitOf W) hand p (handAfter d [] (items ks ns)) (handAfter (suc d) [] (items ks ns)) (s .1)
-            (sym (ap (λ r. getD (r .phase) 0 0) r) ∙ e))
+            (shows-logarithm (limitOf W) hand p (handAfter d [] (items ks ns)) (handAfter (suc d) [] (items ks ns))
+            (s .1) (sym (ap (λ r. getD (r .phase) 0 0) r) ∙ e))
       ]

@@ -8,7 +8,7 @@ use mathlib.Core.List.{List}
 use Prim.Native.Nat.{ℕ, _+_, _≤_, _<_}
 use native.Mathlib.Decide.{decLt}
 use native.Mathlib.Omega.{arith}
-use lib.ListN.{length, drop}
+use lib.ListN.{length}
 use Rattle.checked.specs.Value.{limitOf}
 use Rattle.places.specs.Faults.{NoFaultBefore}
 use Rattle.shape.specs.Items.{Kind, items}
@@ -168,7 +168,8 @@ module _ (W : ℕ) (ks ns : List ℕ) where
   looked : Countable W ks ns → shapeOf W ks ns ≡ shapeFrom (limitOf W) 0 0 (items ks ns)
   looked p = at-known-width W ks ns (p .0) ∙ at-items (limitOf W) ks ns (p .1) (p .2) (p .3)
 
-  -- 8 to 13, with number c at place j, exactly when the items are looked at, place j has the fault c, and no place before it has one
+  -- 8 to 13, with number c at place j, exactly when the items are looked at, place j has the fault c, and no place
+  -- before it has one
   pub fault-refused-exactly
       : (c j : ℕ) → 8 ≤ c → (shapeOf W ks ns ≡ refused c j) ↔ (Countable W ks ns × FirstFault (limitOf W) 0 (items ks ns) c j)
   fault-refused-exactly c j b = (only, λ p. looked (p .0) ∙ at-first-fault .1 (p .1))
@@ -258,7 +259,8 @@ module _ (W : ℕ) (ks ns : List ℕ) where
 
   -- 8 at j exactly when item j is looked at, and its kind is unknown or it is an operation with a number not 0
   pub refused-8-exactly
-      : (j : ℕ) → (shapeOf W ks ns ≡ refused 8 j) ↔ (LookedAt W ks ns j × UnknownOrNumbered (kindAt ks j) (numberAt ns j))
+      : (j : ℕ) →
+      (shapeOf W ks ns ≡ refused 8 j) ↔ (LookedAt W ks ns j × UnknownOrNumbered (kindAt ks j) (numberAt ns j))
   refused-8-exactly j =
       by-fault 8 j (omega arith) (omega arith)
       (fault-8-exactly (limitOf W) (heldAt ks ns j) (kindAt ks j) (numberAt ns j))
@@ -274,7 +276,8 @@ module _ (W : ℕ) (ks ns : List ℕ) where
   -- 10 at j exactly when item j is looked at, and it is an operation with fewer than two values on hand
   pub refused-10-exactly
       : (j : ℕ) →
-      (shapeOf W ks ns ≡ refused 10 j) ↔ (LookedAt W ks ns j × TooFewOnHand (heldAt ks ns j) (kindAt ks j) (numberAt ns j))
+      (shapeOf W ks ns ≡ refused 10 j)
+      ↔ (LookedAt W ks ns j × TooFewOnHand (heldAt ks ns j) (kindAt ks j) (numberAt ns j))
   refused-10-exactly j =
       by-fault 10 j (omega arith) (omega arith)
       (fault-10-exactly (limitOf W) (heldAt ks ns j) (kindAt ks j) (numberAt ns j))

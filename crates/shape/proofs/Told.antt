@@ -2,17 +2,17 @@
 -- the kinds by their codes.
 -- Assumes nothing.
 use mathlib.Core.Path.{_≡_, refl, ap, sym, _∙_}
-use mathlib.Core.Logic.{_↔_, _⊎_, inl, inr, ⊎-elim}
+use mathlib.Core.Logic.{_↔_, inl, inr}
 use Prim.Native.Nat.{ℕ, _≤_, _<_}
 use native.Mathlib.Decide.{ℕ-discrete, decLt}
 use native.Mathlib.Omega.{arith}
-use borrow.Author.Tests.{eq-eqb, ne-eqb}
+use borrow.Author.Tests.{ne-eqb}
 use Rattle.shape.specs.Items.{Operation, Kind, literal, operation, unknown, kindOf}
 use Rattle.shape.specs.Shape.{faultOf, endFault}
 use Rattle.shape.specs.Faults.{Operates, UnknownOrNumbered, AboveLimit, TooFewOnHand, HandFull, Faultless}
 use Rattle.shape.proofs.Codes.{kind-at, kind-operation, kind-unknown}
 use Rattle.shape.proofs.Shapes.{literal-above, literal-beyond-hand, literal-passes}
-use Rattle.shape.proofs.Shapes.{operation-numbered, operation-lacking, operation-passes, end-good}
+use Rattle.shape.proofs.Shapes.{operation-numbered, operation-lacking, operation-passes}
 
 -- ---- an item
 
