@@ -6,6 +6,7 @@ pub mod Digits
 pub mod Operations
 pub mod Bound
 pub mod Reaching
+pub mod Hands
 pub mod Failing
 pub mod Examples
 pub mod Promises

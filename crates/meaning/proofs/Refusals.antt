@@ -3,49 +3,23 @@
 -- Assumes nothing.
 use mathlib.Core.Path.{_≡_, refl, ap, ap₂, sym, _∙_}
 use mathlib.Core.Bool.{Bool, true, false, cond, _&&_}
-use Prim.Native.Nat.{ℕ, _≤_, _<_, zero-le}
+use Prim.Native.Nat.{ℕ, _≤_, zero-le}
 use native.Mathlib.Decide.{ℕ-discrete, decLt}
 use native.Mathlib.Omega.{arith}
 use lib.Dec.{eqb, ltb}
 use borrow.Author.Tests.{eq-eqb, ne-eqb, lt-ltb, le-ltb}
 use Rattle.shape.specs.Items.{Operation, sum, product, quotient, remainder, power, logarithm}
 use Rattle.meaning.specs.Meaning.{refusal}
+pub use Rattle.meaning.specs.Told.{AsksFitting, ByZero, SmallBase}
 
 -- ---- what is known in each row
 
 abbrev pub BothFit : Bool → Bool → Type 0
 BothFit lfits rfits = (lfits ≡ true) × (rfits ≡ true)
 
--- kinds 3 to 6 ask for operands that fit
-abbrev pub AsksFitting : Operation → Type 0
-AsksFitting sum = ⊥
-AsksFitting product = ⊥
-AsksFitting quotient = Unit {0}
-AsksFitting remainder = Unit {0}
-AsksFitting power = Unit {0}
-AsksFitting logarithm = Unit {0}
-
 -- 3
 abbrev pub Overflows : Operation → Bool → Bool → Type 0
 Overflows o lfits rfits = AsksFitting o × ((lfits && rfits) ≡ false)
-
--- 1, where both fit
-abbrev pub ByZero : Operation → ℕ → Type 0
-ByZero sum r = ⊥
-ByZero product r = ⊥
-ByZero quotient r = r ≡ 0
-ByZero remainder r = r ≡ 0
-ByZero power r = ⊥
-ByZero logarithm r = ⊥
-
--- 2, where both fit
-abbrev pub SmallBase : Operation → ℕ → Type 0
-SmallBase sum l = ⊥
-SmallBase product l = ⊥
-SmallBase quotient l = ⊥
-SmallBase remainder l = ⊥
-SmallBase power l = ⊥
-SmallBase logarithm l = l < 2
 
 -- no refusal
 abbrev pub Passes : Operation → Bool → Bool → ℕ → ℕ → Type 0

@@ -16,7 +16,7 @@ laid-set : (f : Value → ℕ) (hand : List Value) (rest : List ℕ) (i j x : �
 laid-set f [] rest i j x e = let p : i ≡ j = omega arith in ap (λ k. set rest k x) p
 laid-set f (v ∷ hand) rest i j x e = laid-set f hand (f v ∷ rest) i (suc j) x (omega arith)
 
-laid-get : (f : Value → ℕ) (hand : List Value) (rest : List ℕ) (i j : ℕ) → i ≡ length hand + j → getD (laid f hand rest) i 0 ≡ getD rest j 0
+pub laid-get : (f : Value → ℕ) (hand : List Value) (rest : List ℕ) (i j : ℕ) → i ≡ length hand + j → getD (laid f hand rest) i 0 ≡ getD rest j 0
 laid-get f [] rest i j e = let p : i ≡ j = omega arith in ap (λ k. getD rest k 0) p
 laid-get f (v ∷ hand) rest i j e = laid-get f hand (f v ∷ rest) i (suc j) (omega arith)
 
@@ -29,7 +29,7 @@ laid-length f (v ∷ hand) rest = laid-length f hand (f v ∷ rest) ∙ omega ar
 room : (n : ℕ) → n < 32 → 32 - n ≡ suc (32 - suc n)
 room n h = omega arith
 
-places-length : (f : Value → ℕ) (hand : List Value) → length hand ≤ 32 → length (places f hand) ≡ 32
+pub places-length : (f : Value → ℕ) (hand : List Value) → length hand ≤ 32 → length (places f hand) ≡ 32
 places-length f hand h = laid-length f hand (replicate (32 - length hand) 0) ∙ omega (arith, length-replicate {A = ℕ} (32 - length hand) 0)
 
 places-put : (f : Value → ℕ) (hand : List Value) (v : Value) → length hand < 32 → set (places f hand) (length hand) (f v) ≡ places f (v ∷ hand)

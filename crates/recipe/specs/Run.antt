@@ -1,11 +1,13 @@
 -- What a run shows, in numbers: the answer, the steps taken, and where it was stopped its state.
 -- Assumes nothing.
 use mathlib.Core.Path.{_≡_}
+use mathlib.Core.Logic.{_⊎_}
 use mathlib.Core.Bool.{true, false}
 use mathlib.Core.List.{List, [], _∷_}
-use Prim.Native.Nat.{ℕ, _-_}
+use Prim.Native.Nat.{ℕ, suc, _-_, _≤_, _<_}
 use lib.Dec.{eqb}
-use lib.ListN.{length, replicate}
+use lib.ListN.{length, getD, replicate}
+use Rattle.checked.specs.declared.types.Checked64.the-variants.{Fits}
 use Rattle.checked.specs.Value.{Value, limitOf, checkedOf}
 use Rattle.checked.specs.Paper.{Paper, given, numberOf}
 use Rattle.shape.specs.Items.{Item, items}
@@ -44,6 +46,10 @@ numberIn v = given v .number
 abbrev pub laid : (Value → ℕ) → List Value → List ℕ → List ℕ
 laid f [] rest = rest
 laid f (v ∷ hand) rest = laid f hand (f v ∷ rest)
+
+-- the value at place i, counted from the bottom
+abbrev pub fromBottom : List Value → ℕ → Value
+fromBottom hand i = getD hand (length hand - suc i) (Fits 0)
 
 -- 32 places, and the unused ones fitting 0
 abbrev pub places : (Value → ℕ) → List Value → List ℕ
@@ -105,6 +111,32 @@ runOf W ks ns allowance =
       | true ↦ shown (after (shapeOf W ks ns .limit) allowance (start (items ks ns)))
       | false ↦ ended (refusedAt (shapeOf W ks ns .code) (shapeOf W ks ns .place)) 0
     ]
+
+-- ---- in the words of the promises
+
+-- a value of the width in numbers: it fits and is at most M, or it is overflowed and its number is 0
+abbrev pub ShowsValue : (M mark number : ℕ) → Type 0
+ShowsValue M mark n = ((mark ≡ 0) × (n ≤ M)) ⊎ ((mark ≡ 1) × (n ≡ 0))
+
+-- within a power both values are values of the width, and the exponent is from 1 to M
+abbrev pub ShowsPower : ℕ → List ℕ → Type 0
+ShowsPower M phase =
+    ShowsValue M (getD phase 1 0) (getD phase 2 0) × ShowsValue M (getD phase 3 0) (getD phase 4 0)
+    × (1 ≤ getD phase 5 0) × (getD phase 5 0 ≤ M)
+
+-- within a logarithm the base is from 2 to what is left, and what is left and the count are at most M
+abbrev pub ShowsLogarithm : ℕ → List ℕ → Type 0
+ShowsLogarithm M phase =
+    (2 ≤ getD phase 1 0) × (getD phase 1 0 ≤ getD phase 2 0) × (getD phase 2 0 ≤ M) × (getD phase 3 0 ≤ M)
+
+-- 32 places show a hand: the bottom first, and every unused one fitting 0
+pub record ShowsHand (hand : List Value) (marks numbers : List ℕ) : Type 0 where
+  pub places-of-marks : length marks ≡ mostOnHand
+  pub places-of-numbers : length numbers ≡ mostOnHand
+  pub bottom-first
+      : (i : ℕ) → i < length hand →
+      (getD marks i 0 ≡ markOf (fromBottom hand i)) × (getD numbers i 0 ≡ numberIn (fromBottom hand i))
+  pub unused : (i : ℕ) → length hand ≤ i → (getD marks i 0 ≡ 0) × (getD numbers i 0 ≡ 0)
 
 -- well formed at a width
 abbrev pub WellFormed : ℕ → List ℕ → List ℕ → Type 0

@@ -1,5 +1,5 @@
--- What looking at a recipe's shape promises, one named theorem for each promise. The function's contract says that its answer is the one of
--- `shapeOf`; `Unique` says that no other answer is.
+-- What looking at a recipe's shape promises, one named theorem for each promise. The function's contract says that its
+-- answer is the one of `shapeOf`; `Unique` says that no other answer is.
 -- Assumes nothing.
 use mathlib.Core.Path.{_≡_, refl, ap, sym, _∙_, subst}
 use mathlib.Core.Logic.{_↔_, _⊎_, inl, inr, ⊎-elim}
@@ -10,10 +10,19 @@ use native.Mathlib.Decide.{decLt}
 use native.Mathlib.Omega.{arith}
 use lib.ListN.{length}
 use Rattle.checked.specs.Value.{limitOf}
-use Rattle.shape.specs.Items.{items}
-use Rattle.shape.specs.Shape.{refused, wellFormed, endFault, shapeFrom, Good, knownWidth, shapeOf}
-use Rattle.shape.specs.Faults.{heldBefore, faultAt, FirstFault, OnlyEndFault, NoneOrFrom, Countable}
-use Rattle.shape.proofs.Items.{length-items}
+use Rattle.places.specs.Faults.{NoFaultBefore}
+use Rattle.shape.specs.Items.{Kind, items}
+use Rattle.shape.specs.Shape.{refused, wellFormed, mostOnHand, faultOf, endFault, shapeFrom, Good}
+use Rattle.shape.specs.Shape.{knownWidth, shapeOf}
+use Rattle.shape.specs.Faults.{UnknownOrNumbered, AboveLimit, TooFewOnHand, HandFull, Faultless}
+use Rattle.shape.specs.Faults.{heldBefore, faultHere, faultAt, FirstFault, OnlyEndFault, NoneOrFrom, Countable}
+use Rattle.shape.specs.Faults.{LookedAt, kindAt, numberAt, heldAt, SeveralLeft, literals, operations, countBefore}
+use Rattle.shape.proofs.Items.{length-items, items-at}
+use Rattle.shape.proofs.Told.{unknown-or-numbered, above-limit, too-few, hand-full, none, standing}
+use Rattle.shape.proofs.Told.{unknown-or-numbered-8, above-limit-9, too-few-10, hand-full-11, faultless-0}
+use Rattle.shape.proofs.Told.{end-more, end-more-only}
+use Rattle.shape.proofs.Held.{held-counted, held-at-most}
+pub use Rattle.shape.proofs.Told.{code-of-literal, code-of-operation, code-of-unknown}
 use Rattle.shape.proofs.Shapes.{known-widths, at-unequal, at-none, at-many, at-items, no-width, lengths-differ, miscounted, looked-at, at-unknown-width, at-known-width, stage, good-shape, shape-good}
 use Rattle.shape.proofs.Faults.{refused-at-first-fault, refused-somewhere}
 use Rattle.shape.proofs.Faults.{numbers-at-item, fault-at-end, end-numbers, numbers-from, some-left}
@@ -21,6 +30,90 @@ use Rattle.shape.proofs.Faults.{numbers-at-item, fault-at-end, end-numb
 -- the widths there are
 pub width-known-exactly : (W : ℕ) → (knownWidth W ≡ true) ↔ ((W ≡ 8) ⊎ ((W ≡ 16) ⊎ ((W ≡ 32) ⊎ (W ≡ 64))))
 width-known-exactly W = (known-widths W, ⊎-elim (ap knownWidth) (⊎-elim (ap knownWidth) (⊎-elim (ap knownWidth) (ap knownWidth))))
+
+-- ---- an item's fault, by its kind, its number, the limit and the values on hand before it
+
+module _ (M held : ℕ) (kind : Kind) (number : ℕ) where
+  abbrev fault : ℕ
+  fault = faultOf M held kind number
+
+  -- it has one fault
+  other : {A : Type 0} {c d : ℕ} → fault ≡ c → fault ≡ d → (c ≡ d → ⊥) → A
+  other e f n = absurd (n (sym e ∙ f))
+
+  -- 8 exactly for an unknown kind, or an operation with a number that isn't 0
+  pub fault-8-exactly : (fault ≡ 8) ↔ UnknownOrNumbered kind number
+  fault-8-exactly = (only, unknown-or-numbered-8 M held kind number)
+    where
+      only : fault ≡ 8 → UnknownOrNumbered kind number
+      only f =
+          elim (standing M held kind number) [
+            | unknown-or-numbered t e ↦ t
+            | above-limit t e ↦ other e f (λ q. omega arith)
+            | too-few t e ↦ other e f (λ q. omega arith)
+            | hand-full t e ↦ other e f (λ q. omega arith)
+            | none t e ↦ other e f (λ q. omega arith)
+          ]
+
+  -- 9 exactly for a literal above M
+  pub fault-9-exactly : (fault ≡ 9) ↔ AboveLimit M kind number
+  fault-9-exactly = (only, above-limit-9 M held kind number)
+    where
+      only : fault ≡ 9 → AboveLimit M kind number
+      only f =
+          elim (standing M held kind number) [
+            | unknown-or-numbered t e ↦ other e f (λ q. omega arith)
+            | above-limit t e ↦ t
+            | too-few t e ↦ other e f (λ q. omega arith)
+            | hand-full t e ↦ other e f (λ q. omega arith)
+            | none t e ↦ other e f (λ q. omega arith)
+          ]
+
+  -- 10 exactly for an operation with the number 0 and fewer than two values on hand
+  pub fault-10-exactly : (fault ≡ 10) ↔ TooFewOnHand held kind number
+  fault-10-exactly = (only, too-few-10 M held kind number)
+    where
+      only : fault ≡ 10 → TooFewOnHand held kind number
+      only f =
+          elim (standing M held kind number) [
+            | unknown-or-numbered t e ↦ other e f (λ q. omega arith)
+            | above-limit t e ↦ other e f (λ q. omega arith)
+            | too-few t e ↦ t
+            | hand-full t e ↦ other e f (λ q. omega arith)
+            | none t e ↦ other e f (λ q. omega arith)
+          ]
+
+  -- 11 exactly for a literal at most M that would be the 33rd on hand
+  pub fault-11-exactly : (fault ≡ 11) ↔ HandFull M held kind number
+  fault-11-exactly = (only, hand-full-11 M held kind number)
+    where
+      only : fault ≡ 11 → HandFull M held kind number
+      only f =
+          elim (standing M held kind number) [
+            | unknown-or-numbered t e ↦ other e f (λ q. omega arith)
+            | above-limit t e ↦ other e f (λ q. omega arith)
+            | too-few t e ↦ other e f (λ q. omega arith)
+            | hand-full t e ↦ t
+            | none t e ↦ other e f (λ q. omega arith)
+          ]
+
+  -- and none exactly for a literal at most M with room for it, or an operation with the number 0 and its two operands
+  pub fault-0-exactly : (fault ≡ 0) ↔ Faultless M held kind number
+  fault-0-exactly = (only, faultless-0 M held kind number)
+    where
+      only : fault ≡ 0 → Faultless M held kind number
+      only f =
+          elim (standing M held kind number) [
+            | unknown-or-numbered t e ↦ other e f (λ q. omega arith)
+            | above-limit t e ↦ other e f (λ q. omega arith)
+            | too-few t e ↦ other e f (λ q. omega arith)
+            | hand-full t e ↦ other e f (λ q. omega arith)
+            | none t e ↦ t
+          ]
+
+-- the end has 12 exactly with more than one value on hand
+pub end-12-exactly : (held : ℕ) → (endFault held ≡ 12) ↔ (1 < held)
+end-12-exactly held = (end-more-only held, end-more held)
 
 module _ (W : ℕ) (ks ns : List ℕ) where
   -- where the items are looked at, no number below 8 but 0 is given
@@ -75,7 +168,8 @@ module _ (W : ℕ) (ks ns : List ℕ) where
   looked : Countable W ks ns → shapeOf W ks ns ≡ shapeFrom (limitOf W) 0 0 (items ks ns)
   looked p = at-known-width W ks ns (p .0) ∙ at-items (limitOf W) ks ns (p .1) (p .2) (p .3)
 
-  -- 8 to 13, with number c at place j, exactly when the items are looked at, place j has the fault c, and no place before it has one
+  -- 8 to 13, with number c at place j, exactly when the items are looked at, place j has the fault c, and no place
+  -- before it has one
   pub fault-refused-exactly
       : (c j : ℕ) → 8 ≤ c → (shapeOf W ks ns ≡ refused c j) ↔ (Countable W ks ns × FirstFault (limitOf W) 0 (items ks ns) c j)
   fault-refused-exactly c j b = (only, λ p. looked (p .0) ∙ at-first-fault .1 (p .1))
@@ -137,6 +231,90 @@ module _ (W : ℕ) (ks ns : List ℕ) where
           FirstFault (limitOf W) 0 (items ks ns) c j
       first p =
           (omega (arith, length-items ks ns (p .0 .1)), ap (faultAt (limitOf W) 0 (items ks ns)) (p .1) ∙ at-end (p .0) ∙ p .2 .0, λ k h. p .2 .1 k (omega arith))
+
+  -- ---- 8 to 12, one by one
+
+  fault-at-item
+      : (j : ℕ) → length ks ≡ length ns → j < length ks →
+      faultAt (limitOf W) 0 (items ks ns) j ≡ faultOf (limitOf W) (heldAt ks ns j) (kindAt ks j) (numberAt ns j)
+  fault-at-item j e h = ap (faultHere (limitOf W) (heldAt ks ns j)) (items-at ks ns j h (omega arith))
+
+  -- what a fault says of an item, said of the item at which the recipe is refused
+  by-fault
+      : (c j : ℕ) → 8 ≤ c → c ≤ 11 → {P : Type 0} →
+      (faultOf (limitOf W) (heldAt ks ns j) (kindAt ks j) (numberAt ns j) ≡ c) ↔ P →
+      (shapeOf W ks ns ≡ refused c j) ↔ (LookedAt W ks ns j × P)
+  by-fault c j b t {P = P} exactly = (only, given)
+    where
+      only : shapeOf W ks ns ≡ refused c j → LookedAt W ks ns j × P
+      only e =
+          let p = fault-refused-exactly c j b .0 e in
+          let h = item-refused-at-item c j b t e in
+          ((p .0, h, p .1 .2), exactly .0 (sym (fault-at-item j (p .0 .1) h) ∙ p .1 .1))
+
+      given : LookedAt W ks ns j × P → shapeOf W ks ns ≡ refused c j
+      given ((n, h, before), p) =
+          let there : j < length (items ks ns) + 1 = omega (arith, length-items ks ns (n .1)) in
+          fault-refused-exactly c j b .1 (n, (omega arith, fault-at-item j (n .1) h ∙ exactly .1 p, before))
+
+  -- 8 at j exactly when item j is looked at, and its kind is unknown or it is an operation with a number not 0
+  pub refused-8-exactly
+      : (j : ℕ) →
+      (shapeOf W ks ns ≡ refused 8 j) ↔ (LookedAt W ks ns j × UnknownOrNumbered (kindAt ks j) (numberAt ns j))
+  refused-8-exactly j =
+      by-fault 8 j (omega arith) (omega arith)
+      (fault-8-exactly (limitOf W) (heldAt ks ns j) (kindAt ks j) (numberAt ns j))
+
+  -- 9 at j exactly when item j is looked at, and it is a literal above M
+  pub refused-9-exactly
+      : (j : ℕ) →
+      (shapeOf W ks ns ≡ refused 9 j) ↔ (LookedAt W ks ns j × AboveLimit (limitOf W) (kindAt ks j) (numberAt ns j))
+  refused-9-exactly j =
+      by-fault 9 j (omega arith) (omega arith)
+      (fault-9-exactly (limitOf W) (heldAt ks ns j) (kindAt ks j) (numberAt ns j))
+
+  -- 10 at j exactly when item j is looked at, and it is an operation with fewer than two values on hand
+  pub refused-10-exactly
+      : (j : ℕ) →
+      (shapeOf W ks ns ≡ refused 10 j)
+      ↔ (LookedAt W ks ns j × TooFewOnHand (heldAt ks ns j) (kindAt ks j) (numberAt ns j))
+  refused-10-exactly j =
+      by-fault 10 j (omega arith) (omega arith)
+      (fault-10-exactly (limitOf W) (heldAt ks ns j) (kindAt ks j) (numberAt ns j))
+
+  -- 11 at j exactly when item j is looked at, and it is a literal that would be the 33rd on hand
+  pub refused-11-exactly
+      : (j : ℕ) →
+      (shapeOf W ks ns ≡ refused 11 j)
+      ↔ (LookedAt W ks ns j × HandFull (limitOf W) (heldAt ks ns j) (kindAt ks j) (numberAt ns j))
+  refused-11-exactly j =
+      by-fault 11 j (omega arith) (omega arith)
+      (fault-11-exactly (limitOf W) (heldAt ks ns j) (kindAt ks j) (numberAt ns j))
+
+  -- 12 exactly at n, when no item has a fault and more than one value is on hand at the end
+  pub refused-12-exactly : (j : ℕ) → (shapeOf W ks ns ≡ refused 12 j) ↔ ((j ≡ length ks) × SeveralLeft W ks ns)
+  refused-12-exactly j = (only, given)
+    where
+      only : shapeOf W ks ns ≡ refused 12 j → (j ≡ length ks) × SeveralLeft W ks ns
+      only e =
+          let p = end-refused-exactly 12 j (omega arith) .0 e in
+          (p .1, (p .0, end-more-only (heldAt ks ns (length ks)) (p .2 .0), p .2 .1))
+
+      given : (j ≡ length ks) × SeveralLeft W ks ns → shapeOf W ks ns ≡ refused 12 j
+      given (e, (n, h, before)) =
+          end-refused-exactly 12 j (omega arith) .1 (n, e, (end-more (heldAt ks ns (length ks)) h, before))
+
+  -- ---- the values on hand
+
+  -- up to the first fault, they are the literals less the operations before the place
+  pub on-hand-counted
+      : (j : ℕ) → NoFaultBefore (faultAt (limitOf W) 0 (items ks ns)) j →
+      heldAt ks ns j + countBefore operations (items ks ns) j ≡ countBefore literals (items ks ns) j
+  on-hand-counted j before = let e = held-counted (limitOf W) 0 (items ks ns) j before in omega arith
+
+  -- and in a well-formed recipe at most 32 before every place
+  pub on-hand-at-most : (j : ℕ) → Good (limitOf W) 0 (items ks ns) → heldAt ks ns j ≤ mostOnHand
+  on-hand-at-most j g = held-at-most (limitOf W) 0 (items ks ns) j g (omega arith)
 
   -- ---- every answer
 

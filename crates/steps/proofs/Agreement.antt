@@ -14,11 +14,12 @@ use Rattle.shape.specs.Items.{Item}
 use Rattle.shape.specs.Shape.{Good, faultOf}
 use Rattle.meaning.specs.Meaning.{refusalOn, handOn, Meant, number, failed, meaningFrom, meaning}
 use Rattle.meaning.specs.Count.{furtherOn, countFrom, count}
+use Rattle.meaning.proofs.Hands.{item-holds}
 use Rattle.steps.specs.declared.types.Phase.the-variants.{Between}
 use Rattle.steps.specs.Steps.{State, going, refused, start, after, endedAs, finished, Stopped}
 use Rattle.steps.specs.Shown.{valuesOf}
 use Rattle.steps.proofs.Runs.{Ended, ended-stays, after-sum, taken, Reached, reached, one-more}
-use Rattle.steps.proofs.Items.{item-holds, item-begins, item-fails, item-runs}
+use Rattle.steps.proofs.Items.{item-begins, item-fails, item-runs}
 
 -- ---- from the middle of a recipe
 

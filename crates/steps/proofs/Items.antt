@@ -1,10 +1,10 @@
--- An item of a well-formed recipe, begun with the values of the meaning's hand on hand: its steps leave the values of the meaning's hand after it, or it is
--- refused in one step where the meaning refuses it.
+-- An item of a well-formed recipe, begun with the values of the meaning's hand on hand: its steps leave the values of
+-- the meaning's hand after it, or it is refused in one step where the meaning refuses it.
 -- Assumes nothing.
 use mathlib.Core.Path.{_≡_, refl, ap, sym, _∙_}
 use mathlib.Core.Bool.{true, false, true≢false}
 use mathlib.Core.List.{List, [], _∷_}
-use Prim.Native.Nat.{ℕ, suc, _+_, _<_}
+use Prim.Native.Nat.{ℕ, suc, _+_}
 use native.Mathlib.Omega.{arith}
 use lib.Dec.{eqb}
 use lib.ListN.{length}
@@ -12,10 +12,11 @@ use Rattle.checked.specs.declared.types.Checked64.the-variants.{Fits}
 use Rattle.checked.specs.Value.{checkedOf}
 use Rattle.checked.proofs.Limit.{fits}
 use Rattle.shape.specs.Items.{Kind, literal, operation, unknown, Item}
-use Rattle.shape.specs.Shape.{operationFault, faultOf, heldAfter}
-use Rattle.shape.proofs.Shapes.{literal-good, operation-good}
+use Rattle.shape.specs.Shape.{faultOf}
+use Rattle.shape.proofs.Shapes.{literal-good}
 use Rattle.meaning.specs.Meaning.{top, under, refusalOn, handOn}
 use Rattle.meaning.specs.Count.{furtherOn}
+use Rattle.meaning.proofs.Hands.{too-few, itemWith}
 use Rattle.steps.specs.declared.types.Phase.the-variants.{Between}
 use Rattle.steps.specs.Steps.{Outcome, value, begun, going, refused, landed, beginning, after}
 use Rattle.steps.specs.Shown.{valuesOf}
@@ -23,26 +24,11 @@ use Rattle.steps.proofs.Outcomes.{Keeps}
 use Rattle.steps.proofs.Work.{works-out}
 use Rattle.steps.proofs.Operations.{begun-ill, operation-keeps}
 
--- an operation without a fault has two values on hand
-too-few : {A : Type 0} (held n : ℕ) → held < 2 → operationFault held n ≡ 0 → A
-too-few held n few h = let enough = operation-good held n h .1 in let f : ⊥ = omega arith in absurd f
-
 -- ---- an item begun
-
-abbrev itemWith : Kind → ℕ → Item
-itemWith k n = record { kind = k; number = n }
 
 -- nothing is wrong with an item, with this hand before it
 abbrev Faultless : ℕ → List ℕ → Kind → ℕ → Type 0
 Faultless M H k n = faultOf M (length H) k n ≡ 0
-
--- the meaning's hand after it is as long as the shape has it
-pub item-holds : (M : ℕ) (H : List ℕ) (k : Kind) (n : ℕ) → Faultless M H k n → length (handOn H (itemWith k n)) ≡ heldAfter (length H) k
-item-holds M H literal n h = refl
-item-holds M [] (operation o) n h = too-few 0 n (omega arith) h
-item-holds M (r ∷ []) (operation o) n h = too-few 1 n (omega arith) h
-item-holds M (r ∷ l ∷ H) (operation o) n h = omega arith
-item-holds M H unknown n h = refl
 
 -- begun and not refused with the values of the meaning's hand H on hand: the outcome keeps to the top of the meaning's hand after it, and the
 -- values of what is under that top are on hand

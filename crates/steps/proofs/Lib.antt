@@ -9,3 +9,4 @@ pub mod Operations
 pub mod Items
 pub mod Agreement
 pub mod Stops
+pub mod Widths

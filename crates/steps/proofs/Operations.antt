@@ -72,11 +72,11 @@ module _ (M l r : ℕ) where
   on-numbers quotient h k e = (fits M (l / r) (omega (arith, div-le-self l r)), refl)
   on-numbers remainder h k e = (fits M (l % r) (omega (arith, mod-le l r)), refl)
   on-numbers power h k e =
-      powering-keeps M (worth power l r) (checkedOf M 1) (Fits l) r (settled-at M 1 refl)
+      powering-keeps M (worth power l r) (checkedOf M 1) (Fits l) r (settled-at M 1 refl) (fits M l h) k
       (power-begins M l r refl (fits M l h))
   on-numbers logarithm h k e =
       let b = passed logarithm true true l r e .1 in
-      dividing-keeps M (log-of l r) l r 0 b (zero-add (log-of l r)) (omega (arith, log-at-most l r b))
+      dividing-keeps M (log-of l r) l r 0 b k (zero-add (log-of l r)) (omega (arith, log-at-most l r b))
 
   on-fitting
       : (o : Operation) → BothFit (leb l M) (leb r M) →

@@ -11,14 +11,16 @@ use Rattle.checked.specs.Value.{Value, checkedOf}
 use Rattle.shape.specs.Items.{Item}
 use Rattle.shape.specs.Shape.{faultOf, Good}
 use Rattle.meaning.specs.Meaning.{top, under, refusalOn, handOn}
+use Rattle.meaning.specs.Faults.{handAfter}
+use Rattle.meaning.proofs.Hands.{item-holds}
 use Rattle.steps.specs.declared.types.Phase.{Phase}
 use Rattle.steps.specs.declared.types.Phase.the-variants.{Between, InPower, InLogarithm}
 use Rattle.steps.specs.Steps.{Outcome, value, within, fails, powerStep, logarithmStep, State, going, refused, start, landed, beginning, step, after}
-use Rattle.steps.specs.Shown.{valuesOf, handAfter, ShowsMeaning}
+use Rattle.steps.specs.Shown.{valuesOf, ShowsMeaning}
 use Rattle.steps.proofs.Outcomes.{Promised}
 use Rattle.steps.proofs.Powers.{power-keeps}
 use Rattle.steps.proofs.Logarithms.{logarithm-keeps}
-use Rattle.steps.proofs.Items.{item-holds, item-begins, item-fails}
+use Rattle.steps.proofs.Items.{item-begins, item-fails}
 
 -- ---- the item after d others
 
