@@ -30,7 +30,7 @@ from digests import digest
 
 HERE = os.path.dirname(os.path.abspath(__file__))
 TOP = os.path.dirname(os.path.dirname(HERE))
-SEAL = "3d3e49f73add3ef6"
+SEAL = "4c48b8f3dc174b06"
 KINDS = {"takes", "requires", "ensures", "recommends", "decreases", "is", "calls", "holds", "instance", "says"}
 # the clause holds here; it doesn't, and docs/DIFFERENCES.md says why
 GIVEN = {"same", "stronger"}
@@ -159,7 +159,7 @@ def citation_faults(rows, page):
         for name, rest in re.findall(CITED.pattern + r"([^`]*)", row.here):
             told = statement(name)
             for part in re.findall(r"(?<![\w.])\.(\d+)", rest):
-                if not told or int(part) >= max(parts(told), 1) or parts(told) == 1:
+                if not told or parts(told) == 1 or int(part) >= parts(told):
                     faults.append(f"line {row.line}: `{name}` states no fact .{part}")
                 if row.kind == "ensures":
                     given[row.function, name, part] += 1
@@ -244,6 +244,10 @@ def damages(page, differences, listing):
     yield "same made different", "no reason is given", changed(row, differs, "| different |  |")
     yield "same made different, with a reason", no_entry, changed(row, differs, "| different | why |")
     yield "different made same", "says that it differs", changed(apart, r"\| different \|", "| same |")
+    exchanged = changed(row, r"\| same \|", "| different |")[0].replace(
+        text(apart), text(apart).replace("| different |", "| same |"), 1)
+    yield "verdicts exchanged", no_entry, (exchanged, differences, listing)
+    yield "verdicts exchanged, the other row", "says that it differs", (exchanged, differences, listing)
     yield "left out made same", "says that it differs", changed(gone, r"\|  \| left out \|", f"| {nowhere} | same |")
     yield "stronger with no reason", "no reason is given", changed(more, r"\| stronger \|[^|]*\|$", "| stronger |  |")
     yield "a verdict of nobody's", "none of those that the page explains", changed(row, r"\| same \|", "| fine |")

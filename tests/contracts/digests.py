@@ -168,7 +168,7 @@ def main():
     if len(sys.argv) != 2:
         sys.exit(__doc__)
     names = sorted(os.listdir(sys.argv[1]))
-    print("# Upstream's clauses, in the order of its text: file, function, kind, digest of its words. digests.py makes it.")
+    print("# Upstream's clauses in the order of its text: file, function, kind, digest of the words (digests.py).")
     for file in FILES:
         (name,) = [n for n in names if n == file or n.endswith("--" + file + ".txt")]
         with open(os.path.join(sys.argv[1], name), encoding="utf-8") as f:

@@ -14,8 +14,10 @@ use Rattle.whole.specs.logarithm.{log-of}
 use Rattle.whole.proofs.Naturals.{log-of-zero, log-of-floor, log-of-largest}
 use Rattle.checked.specs.declared.types.Both.{Both}
 use Rattle.checked.specs.declared.types.Checked64.the-variants.{Fits, Overflowed}
-use Rattle.checked.specs.Value.{Value, limitOf, Stands, Within, checkedOf, sumOf, productOf, bothOf, BothNumbers, OneOverflowed}
-use Rattle.checked.specs.Paper.{given, refused, dividedBy, leftBy, powersOf, logOf, quotientOf, remainderOf, powerOf, logarithmOf, plainOf}
+use Rattle.checked.specs.Value.{Value, limitOf, Stands, Within, checkedOf, sumOf, productOf, bothOf}
+use Rattle.checked.specs.Value.{BothNumbers, OneOverflowed}
+use Rattle.checked.specs.Paper.{given, refused, dividedBy, leftBy, powersOf, logOf}
+use Rattle.checked.specs.Paper.{quotientOf, remainderOf, powerOf, logarithmOf, plainOf}
 use Rattle.checked.specs.Pair.{pair, pairOf}
 use Rattle.checked.proofs.Limit.{fits, over, product-overflowed-zero, product-commutes, sum-overflowed-left}
 use Rattle.checked.proofs.Logarithms as logs
@@ -119,7 +121,8 @@ remainder-given-exactly = refusals.given-exactly leftBy (λ l r. 0 < r) (λ l r.
 
 pub power-given-exactly : (M : ℕ) (a b : Value) → (powerOf M a b .code ≡ 0) ↔ BothNumbers a b (λ l r. Unit {0})
 power-given-exactly M =
-    refusals.given-exactly (powersOf M) (λ l r. Unit {0}) (λ l r. (λ e. tt, λ u. refusals.given-code (checkedOf M (l ^ r))))
+    refusals.given-exactly (powersOf M) (λ l r. Unit {0})
+    (λ l r. (λ e. tt, λ u. refusals.given-code (checkedOf M (l ^ r))))
 
 pub logarithm-given-exactly : (a b : Value) → (logarithmOf a b .code ≡ 0) ↔ BothNumbers a b (λ l r. 2 ≤ l)
 logarithm-given-exactly = refusals.given-exactly logOf (λ l r. 2 ≤ l) (λ l r. refusals.base-passes (log-of l r) l)
@@ -138,8 +141,9 @@ pub by-overflowed-refused
     × (logarithmOf (Fits l) Overflowed ≡ refused 3)
 by-overflowed-refused M l = (refl, refl, refl, refl)
 
--- so are a divisor 0 with 1 and a base below 2 with 2
-pub divisor-0-refused : (l : ℕ) → (quotientOf (Fits l) (Fits 0) ≡ refused 1) × (remainderOf (Fits l) (Fits 0) ≡ refused 1)
+-- where both fit, a divisor 0 is refused with 1 and a base below 2 with 2
+pub divisor-0-refused
+    : (l : ℕ) → (quotientOf (Fits l) (Fits 0) ≡ refused 1) × (remainderOf (Fits l) (Fits 0) ≡ refused 1)
 divisor-0-refused l = (refl, refl)
 
 pub small-base-refused : (l r : ℕ) → l < 2 → logarithmOf (Fits l) (Fits r) ≡ refused 2
@@ -150,7 +154,8 @@ small-base-refused l r h = ap (λ t. cond t (refused 2) (given (Fits (log-of l r
 -- the quotient q and the remainder m of l by r: l = q * r + m with m < r
 pub quotient-and-remainder
     : (l r : ℕ) → 0 < r →
-    (q : ℕ) × (m : ℕ) × (quotientOf (Fits l) (Fits r) ≡ given (Fits q)) × (remainderOf (Fits l) (Fits r) ≡ given (Fits m))
+    (q : ℕ) × (m : ℕ)
+    × (quotientOf (Fits l) (Fits r) ≡ given (Fits q)) × (remainderOf (Fits l) (Fits r) ≡ given (Fits m))
     × (l ≡ q * r + m) × (m < r)
 quotient-and-remainder l r h =
     let t = ne-eqb r 0 (λ e. omega arith) in (

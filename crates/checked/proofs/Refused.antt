@@ -103,21 +103,25 @@ module _ (f : ℕ → ℕ → Paper) where
   other-exactly k P n g (Fits l) Overflowed = (λ e. absurd (n e), λ p. absurd (not-overflowed (p .1) (sym (p .3))))
   other-exactly k P n g (Fits l) (Fits r) = (
     λ e. (l, r, refl, refl, g l r .0 e),
-    λ p. g l r .1
-        (subst (λ x. P x r) (sym (same-number l (p .0) (p .2))) (subst (P (p .0)) (sym (same-number r (p .1) (p .3))) (p .4))),
+    λ p. g l r .1 (
+        subst (λ x. P x r) (sym (same-number l (p .0) (p .2)))
+        (subst (P (p .0)) (sym (same-number r (p .1) (p .3))) (p .4))),
   )
 
   module _ (P : ℕ → ℕ → Type 0) where
     pub given-exactly
-        : ((l r : ℕ) → (f l r .code ≡ 0) ↔ P l r) → (a b : Value) → (onBoth f (bothOf a b) .code ≡ 0) ↔ BothNumbers a b P
+        : ((l r : ℕ) → (f l r .code ≡ 0) ↔ P l r) →
+        (a b : Value) → (onBoth f (bothOf a b) .code ≡ 0) ↔ BothNumbers a b P
     given-exactly = other-exactly 0 P (λ e. omega arith)
 
     pub one-exactly
-        : ((l r : ℕ) → (f l r .code ≡ 1) ↔ P l r) → (a b : Value) → (onBoth f (bothOf a b) .code ≡ 1) ↔ BothNumbers a b P
+        : ((l r : ℕ) → (f l r .code ≡ 1) ↔ P l r) →
+        (a b : Value) → (onBoth f (bothOf a b) .code ≡ 1) ↔ BothNumbers a b P
     one-exactly = other-exactly 1 P (λ e. omega arith)
 
     pub two-exactly
-        : ((l r : ℕ) → (f l r .code ≡ 2) ↔ P l r) → (a b : Value) → (onBoth f (bothOf a b) .code ≡ 2) ↔ BothNumbers a b P
+        : ((l r : ℕ) → (f l r .code ≡ 2) ↔ P l r) →
+        (a b : Value) → (onBoth f (bothOf a b) .code ≡ 2) ↔ BothNumbers a b P
     two-exactly = other-exactly 2 P (λ e. omega arith)
 
 -- ---- both numbers

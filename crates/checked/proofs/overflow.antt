@@ -1,7 +1,7 @@
--- Upstream's `overflow.rs`: each clause of its contracts, from the contract of the function here. Where upstream has a ghost number `self@`, a value
--- here stands for numbers, and the clause holds of each of them. `$uty::MAX` is the limit M.
--- Each law stands once, over M and any type C whose values are seen as values over M; its hypothesis is the function's `ensures`. Below are the four
--- types: 64 bits here, and 8, 16 and 32 bits in `narrow`.
+-- Upstream's `overflow.rs`: each clause of its contracts, from the contract of the function here. Where upstream has a
+-- ghost number `self@`, a value here stands for numbers, and the clause holds of each of them. `$uty::MAX` is M.
+-- Each law stands once, over M and any type C whose values are seen as values over M, and its hypothesis is the
+-- function's `ensures`. Below it are the four types: 64 bits here, and 8, 16 and 32 bits in `narrow`.
 -- Assumes nothing.
 use mathlib.Core.Path.{_≡_, refl, ap, sym, _∙_, subst}
 use mathlib.Core.Bool.{Bool, true, false, true≢false}
@@ -14,7 +14,8 @@ use Rattle.checked.specs.declared.types.Plain64.the-variants as p64
 use Rattle.checked.specs.declared.types.Option64.{Option64}
 use Rattle.checked.specs.declared.types.Option64.the-variants as o64
 use Rattle.checked.specs.declared.types.Checked64.the-variants.{Fits, Overflowed}
-use Rattle.checked.specs.Value.{Value, limitOf, Stands, Number, Held, isOverflowed, checkedOf, least, sumOf, productOf, option}
+use Rattle.checked.specs.Value.{Value, limitOf, Stands, Number, Held, isOverflowed, checkedOf}
+use Rattle.checked.specs.Value.{least, sumOf, productOf, option}
 use Rattle.checked.specs.Paper.{Paper, given, refused, plain, plainOf}
 use Rattle.checked.proofs.Limit.{fits, over}
 use Rattle.checked.proofs.Promises.{sum-stands, product-stands}
@@ -30,7 +31,8 @@ well-formed-fits M v i h = h .0
 pub well-formed-overflowed : (M i : ℕ) → Stands M Overflowed i → M < i
 well-formed-overflowed M i h = h
 
--- checked_add and checked_mul, which upstream calls and whose contracts it does not show: Some of the sum or product if it is at most MAX, else None
+-- checked_add and checked_mul, which upstream calls and whose contracts it does not show: Some of the sum or product
+-- if it is at most MAX, else None
 pub checked-add-is : (M a b : ℕ) → Stands M (checkedOf M (a + b)) (a + b)
 checked-add-is M a b = stands M (a + b)
 
@@ -68,10 +70,12 @@ module _ (M : ℕ) {C : Type 0} (value : C → Value) where
         let s = standing M (value self) i known in
         (λ h. e ∙ ap plainOf (s ∙ sym (fits M i h)), λ h. e ∙ ap plainOf (s ∙ sym (over M i h)))
 
-    -- to_option: Some(v) => self@ == v && v <= MAX, None => self@ > MAX; and so Some exactly with the number, where it is at most MAX
+    -- to_option: Some(v) => self@ == v && v <= MAX, None => self@ > MAX; and so Some of the number exactly where that
+    -- is at most MAX
     pub to-option-is
         : (o : Value) → o ≡ value self →
-        ((v : ℕ) → o ≡ Fits v → (i ≡ v) × (v ≤ M)) × (o ≡ Overflowed → M < i) × (i ≤ M → o ≡ Fits i) × (M < i → o ≡ Overflowed)
+        ((v : ℕ) → o ≡ Fits v → (i ≡ v) × (v ≤ M)) × (o ≡ Overflowed → M < i)
+        × (i ≤ M → o ≡ Fits i) × (M < i → o ≡ Overflowed)
     to-option-is o e = (
       λ v f. let w = here f in (w .0, subst (λ n. n ≤ M) (w .0) (w .1)),
       λ f. here f,
@@ -86,23 +90,27 @@ module _ (M : ℕ) {C : Type 0} (value : C → Value) where
         here f = subst (λ c. Stands M c i) (sym e ∙ f) known
 
     -- add_value: result@ == self@ + v2
-    pub add-value-is : (v : Number M) (r : C) → value r ≡ sumOf M (value self) (Fits (v .0)) → Stands M (value r) (i + v .0)
-    add-value-is v r e =
-        subst (λ c. Stands M c (i + v .0)) (sym e) (sum-stands M (value self) (Fits (v .0)) i (v .0) known (refl, v .1))
+    pub add-value-is
+        : (v : Number M) (r : C) → value r ≡ sumOf M (value self) (Fits (v .0)) → Stands M (value r) (i + v .0)
+    add-value-is (v, h) r e =
+        subst (λ c. Stands M c (i + v)) (sym e) (sum-stands M (value self) (Fits v) i v known (refl, h))
 
     -- mul_value: result@ == self@ * v2
-    pub mul-value-is : (v : Number M) (r : C) → value r ≡ productOf M (value self) (Fits (v .0)) → Stands M (value r) (i * v .0)
-    mul-value-is v r e =
-        subst (λ c. Stands M c (i * v .0)) (sym e) (product-stands M (value self) (Fits (v .0)) i (v .0) known (refl, v .1))
+    pub mul-value-is
+        : (v : Number M) (r : C) → value r ≡ productOf M (value self) (Fits (v .0)) → Stands M (value r) (i * v .0)
+    mul-value-is (v, h) r e =
+        subst (λ c. Stands M c (i * v)) (sym e) (product-stands M (value self) (Fits v) i v known (refl, h))
 
     module _ (v : C) (j : ℕ) (other : Stands M (value v) j) where
       -- add_checked: result@ == self@ + v2@
       pub add-checked-is : (r : C) → value r ≡ sumOf M (value self) (value v) → Stands M (value r) (i + j)
-      add-checked-is r e = subst (λ c. Stands M c (i + j)) (sym e) (sum-stands M (value self) (value v) i j known other)
+      add-checked-is r e =
+          subst (λ c. Stands M c (i + j)) (sym e) (sum-stands M (value self) (value v) i j known other)
 
       -- mul_checked: result@ == self@ * v2@
       pub mul-checked-is : (r : C) → value r ≡ productOf M (value self) (value v) → Stands M (value r) (i * j)
-      mul-checked-is r e = subst (λ c. Stands M c (i * j)) (sym e) (product-stands M (value self) (value v) i j known other)
+      mul-checked-is r e =
+          subst (λ c. Stands M c (i * j)) (sym e) (product-stands M (value self) (value v) i j known other)
 
 -- ---- 64 bits: a value is seen as itself
 
@@ -134,13 +142,21 @@ module _ (self : Value) (i : ℕ) (known : Stands (limitOf 64) self i) where
       ((v : ℕ) → r ≡ o64.Some v → (i ≡ v) × (v ≤ limitOf 64)) × (r ≡ o64.None → limitOf 64 < i)
       × (i ≤ limitOf 64 → r ≡ o64.Some i) × (limitOf 64 < i → r ≡ o64.None)
   to-option64-is r e =
-      let t = to-option-is (limitOf 64) value64 self i known (option r) e in
-      (λ v f. t .0 v (ap option f), λ f. t .1 (ap option f), λ h. option-unique r (o64.Some i) (t .2 h), λ h. option-unique r o64.None (t .3 h))
+      let t = to-option-is (limitOf 64) value64 self i known (option r) e in (
+        λ v f. t .0 v (ap option f),
+        λ f. t .1 (ap option f),
+        λ h. option-unique r (o64.Some i) (t .2 h),
+        λ h. option-unique r o64.None (t .3 h),
+      )
 
-  pub add-value64-is : (v : Number (limitOf 64)) (r : Value) → r ≡ sumOf (limitOf 64) self (Fits (v .0)) → Stands (limitOf 64) r (i + v .0)
+  pub add-value64-is
+      : (v : Number (limitOf 64)) (r : Value) → r ≡ sumOf (limitOf 64) self (Fits (v .0)) →
+      Stands (limitOf 64) r (i + v .0)
   add-value64-is = add-value-is (limitOf 64) value64 self i known
 
-  pub mul-value64-is : (v : Number (limitOf 64)) (r : Value) → r ≡ productOf (limitOf 64) self (Fits (v .0)) → Stands (limitOf 64) r (i * v .0)
+  pub mul-value64-is
+      : (v : Number (limitOf 64)) (r : Value) → r ≡ productOf (limitOf 64) self (Fits (v .0)) →
+      Stands (limitOf 64) r (i * v .0)
   mul-value64-is = mul-value-is (limitOf 64) value64 self i known
 
   module _ (v : Value) (j : ℕ) (other : Stands (limitOf 64) v j) where

@@ -1,4 +1,5 @@
--- What `both` answers, in numbers: 0 and 0 with the two numbers, or 3 and 0, as a plain number asked of an overflowed value.
+-- What `both` answers, in numbers: 0 and 0 with the two numbers; or 3 and 0, as for a plain number that is asked of an
+-- overflowed value.
 -- Assumes nothing.
 use Prim.Native.Nat.{ℕ}
 use Rattle.checked.specs.declared.types.Both.{Both}

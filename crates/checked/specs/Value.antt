@@ -67,7 +67,7 @@ abbrev pub Within : ℕ → Value → Type 0
 Within M (Fits n) = n ≤ M
 Within M Overflowed = Unit {0}
 
--- what a type C can hold whose values are seen as values over M: a number from 0 to M, or the note that it was too large
+-- what a type C can hold whose values are seen as values over M: a number from 0 to M, or the note that it is larger
 abbrev pub Held : ℕ → {C : Type 0} → (C → Value) → Type 0
 Held M {C} value = (c : C) × Within M (value c)
 

@@ -1,5 +1,5 @@
--- What upstream's text leaves open on quotients, remainders and logarithms, closed: one named theorem for each gap. Where its files
--- state a theorem in part, or state it and it follows here from another, the line above the theorem says so.
+-- What upstream's text leaves open on quotients, remainders and logarithms, closed: one named theorem for each gap.
+-- Where its files state a theorem in part, or state it and it follows here from another, the line above it says so.
 -- Assumes nothing.
 use mathlib.Core.Path.{_≡_}
 use mathlib.Core.Bool.{true, false}
@@ -14,7 +14,8 @@ use Rattle.whole.specs.power.{pow}
 use Rattle.whole.specs.logarithm.{log, ends}
 use Rattle.whole.proofs.Difference.{⟨_⟩, _⊕_, _⊗_, equalℤ}
 use Rattle.whole.proofs.Euclid.{_%%_, bound, unique, determined, shifted}
-use Rattle.whole.proofs.div-mod.{by-zero, lemma-div-is-ordered, lemma-div-by-multiple, lemma-mod-equivalence, lemma-mod-mul-equivalent, part-exact}
+use Rattle.whole.proofs.div-mod.{lemma-div-is-ordered, lemma-div-by-multiple, by-zero, part-exact}
+use Rattle.whole.proofs.div-mod.{lemma-mod-equivalence, lemma-mod-mul-equivalent}
 use Rattle.whole.proofs.power.{lemma-pow0}
 use Rattle.whole.proofs.logarithm.{log-unfold, log-floor, log-natural, log-largest, log-unique, log-of-0, lemma-log-pow, lemma-log-is-ordered}
 use Rattle.whole.proofs.Truncating.{rust-fundamental, rust-rem-size, rust-rem-sign-positive, rust-rem-sign-negative, rust-div-of-0, rust-div-is}
@@ -87,7 +88,8 @@ log-is-largest = log-largest
 pub log-is-unique : (l r : ℤ) (e : ℕ) → pos 1 <ℤ l → pow l e ≤ℤ r → r <ℤ pow l (suc e) → log l r ≡ pos e
 log-is-unique l r e h low high = log-unique l r e h (low, high)
 
--- for 0 there is no such exponent: its logarithm is 0 by definition, for every base (upstream's `lemma_log0` states it for a base above 1)
+-- for 0 there is no such exponent: its logarithm is 0 by definition, for every base (upstream's `lemma_log0` states it
+-- for a base above 1)
 pub log-of-nothing : (l : ℤ) → log l (pos 0) ≡ pos 0
 log-of-nothing = log-of-0
 
@@ -100,8 +102,8 @@ log-keeps-order = lemma-log-is-ordered
 
 -- ---- remainders of products
 
--- `is_mod_equivalent` holds of any two numbers and every divisor, so that a lemma which asks it and gives it says nothing (upstream's
--- `lemma_mod_equivalence` states it for a divisor above 0)
+-- `is_mod_equivalent` holds of any two numbers and every divisor, so that a lemma which asks it and gives it says
+-- nothing (upstream's `lemma_mod_equivalence` states it for a divisor above 0)
 pub mod-equivalent-always : (x y m : ℤ) → is-mod-equivalent x y m
 mod-equivalent-always = lemma-mod-equivalence
 

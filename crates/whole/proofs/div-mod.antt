@@ -142,8 +142,9 @@ pub lemma-multiply-divide-lt : (a b c : ℤ) → pos 0 <ℤ b → a <ℤ (b *ℤ
 lemma-multiply-divide-lt = less-than-times
 
 -- x / d * d <= x
-pub lemma-remainder-lower : (x d : ℤ) → pos 0 <ℤ d → (x /ℤ d *ℤ d) ≤ℤ x
-lemma-remainder-lower x d h = leℤ (⟨ x /ℤ d ⟩ ⊗ ⟨ d ⟩) ⟨ x ⟩ (omega (arith, leℤ⁻¹ (# 0) (⟨ x ⟩ %% ⟨ d ⟩) (bound-positive x d h .0)))
+pub lemma-remainder-lower : (x d : ℤ) → d ≢ pos 0 → (x /ℤ d *ℤ d) ≤ℤ x
+lemma-remainder-lower x d n =
+    leℤ (⟨ x /ℤ d ⟩ ⊗ ⟨ d ⟩) ⟨ x ⟩ (omega (arith, leℤ⁻¹ (# 0) (⟨ x ⟩ %% ⟨ d ⟩) (bound x d n .0)))
 
 -- x - d < x / d * d
 pub lemma-remainder-upper : (x d : ℤ) → pos 0 <ℤ d → (x -ℤ d) <ℤ (x /ℤ d *ℤ d)
@@ -210,8 +211,8 @@ lemma-mul-hoist-inequality x y z k h =
     (leℤ (⟨ z ⟩ ⊗ (⟨ x ⟩ ⊗ ⟨ y /ℤ z ⟩)) (⟨ x ⟩ ⊗ ⟨ y ⟩) (omega (arith, cross (atmost-of (pos 0) x k) (leℤ⁻¹ (⟨ z ⟩ ⊗ ⟨ y /ℤ z ⟩) ⟨ y ⟩ (times-quotient y z h)))))
 
 -- b between the same two multiples of d as a has a's quotient
-pub lemma-indistinguishable-quotients : (a b d : ℤ) → pos 0 <ℤ d → (a -ℤ a %ℤ d) ≤ℤ b → b <ℤ (a +ℤ d -ℤ a %ℤ d) → a /ℤ d ≡ b /ℤ d
-lemma-indistinguishable-quotients a b d h k l =
+pub lemma-indistinguishable-quotients : (a b d : ℤ) → (a -ℤ a %ℤ d) ≤ℤ b → b <ℤ (a +ℤ d -ℤ a %ℤ d) → a /ℤ d ≡ b /ℤ d
+lemma-indistinguishable-quotients a b d k l =
     determined b d (a /ℤ d) (b -ℤ d *ℤ (a /ℤ d))
     (below-size d (b -ℤ d *ℤ (a /ℤ d)) (
       leℤ (# 0) (⟨ b ⟩ ⊝ ⟨ d ⟩ ⊗ ⟨ a /ℤ d ⟩) (omega (arith, leℤ⁻¹ (⟨ a ⟩ ⊝ ⟨ a ⟩ %% ⟨ d ⟩) ⟨ b ⟩ k)),
@@ -354,7 +355,8 @@ lemma-mod-multiples-basic x m =
 
 -- m % m == 0
 pub lemma-mod-self-0 : (m : ℤ) → m %ℤ m ≡ pos 0
-lemma-mod-self-0 m = same-remainder m (pos 0) (pos 1) m (equalℤ ⟨ m ⟩ (⟨ m ⟩ ⊗ # 1 ⊕ # 0) (omega arith)) ∙ nothing-left m
+lemma-mod-self-0 m =
+    same-remainder m (pos 0) (pos 1) m (equalℤ ⟨ m ⟩ (⟨ m ⟩ ⊗ # 1 ⊕ # 0) (omega arith)) ∙ nothing-left m
 
 -- (x % m) % m == x % m
 pub lemma-mod-twice : (x m : ℤ) → x %ℤ m %ℤ m ≡ x %ℤ m
@@ -444,18 +446,23 @@ lemma-mod-adds a b d =
         (λ l. by-zero (a %ℤ pos 0 +ℤ b %ℤ pos 0))
         (λ d n l. lemma-small-mod (a %ℤ d +ℤ b %ℤ d) d (
           leℤ (# 0) (⟨ a %ℤ d ⟩ ⊕ ⟨ b %ℤ d ⟩)
-              (omega (arith, atmost-of (pos 0) (a %ℤ d) (bound a d n .0), atmost-of (pos 0) (b %ℤ d) (bound b d n .0))),
+              (omega (
+                arith,
+                atmost-of (pos 0) (a %ℤ d) (bound a d n .0),
+                atmost-of (pos 0) (b %ℤ d) (bound b d n .0),
+              )),
           l,
         ))
 
 -- x % m == y % m exactly when (x - y) % m == 0
 pub lemma-mod-equivalence : (x y m : ℤ) → is-mod-equivalent x y m
 lemma-mod-equivalence x y m = (
-  λ e. sym (lemma-sub-mod-noop x y m) ∙ ap (λ r. (r -ℤ y %ℤ m) %ℤ m) e ∙ ap (λ r. r %ℤ m) (+ℤ-invr (y %ℤ m)) ∙ nothing-left m,
+  λ e. sym (lemma-sub-mod-noop x y m) ∙ ap (λ r. (r -ℤ y %ℤ m) %ℤ m) e ∙ ap (λ r. r %ℤ m) (+ℤ-invr (y %ℤ m))
+      ∙ nothing-left m,
   λ e. same-remainder x y ((x -ℤ y) /ℤ m) m (equalℤ ⟨ x ⟩ (⟨ m ⟩ ⊗ ⟨ (x -ℤ y) /ℤ m ⟩ ⊕ ⟨ y ⟩) (omega (arith, equalℤ⁻¹ (⟨ x ⟩ ⊝ ⟨ y ⟩) (⟨ m ⟩ ⊗ ⟨ (x -ℤ y) /ℤ m ⟩) (multiple (x -ℤ y) m e)))),
 )
 
--- equal remainders before give equal remainders after multiplying. (Upstream asks and gives `is_mod_equivalent`, which holds of
--- every x, y and m, so that its lemma of this name says nothing.)
+-- equal remainders before give equal remainders after multiplying. (Upstream asks and gives `is_mod_equivalent`, which
+-- holds of every x, y and m, so that its lemma of this name says nothing.)
 pub lemma-mod-mul-equivalent : (x y z m : ℤ) → x %ℤ m ≡ y %ℤ m → x *ℤ z %ℤ m ≡ y *ℤ z %ℤ m
 lemma-mod-mul-equivalent x y z m e = sym (lemma-mul-mod-noop-left x z m) ∙ ap (λ r. r *ℤ z %ℤ m) e ∙ lemma-mul-mod-noop-left y z m
