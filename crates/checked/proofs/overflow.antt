@@ -8,21 +8,27 @@ use mathlib.Core.Bool.{Bool, true, false, true≢false}
 use mathlib.Core.Logic.{_↔_}
 use Prim.Native.Nat.{ℕ, _+_, _*_, _≤_, _<_}
 use native.Mathlib.Omega.{arith}
+use mir.Syntax.{Width}
+use mir.Val as machine
 use Rattle.checked.specs.declared.refusal.Refusal.the-variants as refusal
 use Rattle.checked.specs.declared.types.Plain64.{Plain64}
 use Rattle.checked.specs.declared.types.Plain64.the-variants as p64
 use Rattle.checked.specs.declared.types.Option64.{Option64}
 use Rattle.checked.specs.declared.types.Option64.the-variants as o64
 use Rattle.checked.specs.declared.types.Checked64.the-variants.{Fits, Overflowed}
-use Rattle.checked.specs.Value.{Value, limitOf, Stands, Number, Held, isOverflowed, checkedOf}
+use Rattle.checked.specs.Value.{Value, limitOf, Stands, UpTo, Typed, isOverflowed, checkedOf}
 use Rattle.checked.specs.Value.{least, sumOf, productOf, option}
 use Rattle.checked.specs.Paper.{Paper, given, refused, plain, plainOf}
 use Rattle.checked.proofs.Limit.{fits, over}
-use Rattle.checked.proofs.Promises.{sum-stands, product-stands}
+use Rattle.checked.proofs.Promises.{limit-is-largest, sum-stands, product-stands}
 use Rattle.checked.proofs.Standing.{stands, standing, least-stands}
 use Rattle.checked.proofs.Unique.{plain-unique, option-unique}
 
 -- ---- what is true of every value and number
+
+-- what the language knows of a number of an unsigned type of w bits: it is from 0 to MAX
+pub typed-number : (w : Width) (n : ℕ) → machine.Fits w n → n ≤ limitOf (machine.bits w)
+typed-number w n h = limit-is-largest (machine.bits w) n .1 (h .fits)
 
 -- well_formed: a fitting value stands for its number alone, an overflowed one for numbers above M alone
 pub well-formed-fits : (M v i : ℕ) → Stands M (Fits v) i → i ≡ v
@@ -48,11 +54,11 @@ tells M Overflowed i h = (λ e. h, λ l. refl)
 
 module _ (M : ℕ) {C : Type 0} (value : C → Value) where
   -- well_formed, of every value: it stands for a number
-  pub every-value-stands : (c : Held M value) → (i : ℕ) × Stands M (value (c .0)) i
+  pub every-value-stands : (c : Typed M value) → (i : ℕ) × Stands M (value (c .0)) i
   every-value-stands c = (least M (value (c .0)), least-stands M (value (c .0)) (c .1))
 
   -- new: result@ == v
-  pub new-is : (v : Number M) (r : C) → value r ≡ Fits (v .0) → Stands M (value r) (v .0)
+  pub new-is : (v : UpTo M) (r : C) → value r ≡ Fits (v .0) → Stands M (value r) (v .0)
   new-is v r e = subst (λ c. Stands M c (v .0)) (sym e) (refl, v .1)
 
   -- new_overflowed: result@ == i, for any i > MAX
@@ -91,13 +97,13 @@ module _ (M : ℕ) {C : Type 0} (value : C → Value) where
 
     -- add_value: result@ == self@ + v2
     pub add-value-is
-        : (v : Number M) (r : C) → value r ≡ sumOf M (value self) (Fits (v .0)) → Stands M (value r) (i + v .0)
+        : (v : UpTo M) (r : C) → value r ≡ sumOf M (value self) (Fits (v .0)) → Stands M (value r) (i + v .0)
     add-value-is (v, h) r e =
         subst (λ c. Stands M c (i + v)) (sym e) (sum-stands M (value self) (Fits v) i v known (refl, h))
 
     -- mul_value: result@ == self@ * v2
     pub mul-value-is
-        : (v : Number M) (r : C) → value r ≡ productOf M (value self) (Fits (v .0)) → Stands M (value r) (i * v .0)
+        : (v : UpTo M) (r : C) → value r ≡ productOf M (value self) (Fits (v .0)) → Stands M (value r) (i * v .0)
     mul-value-is (v, h) r e =
         subst (λ c. Stands M c (i * v)) (sym e) (product-stands M (value self) (Fits v) i v known (refl, h))
 
@@ -117,10 +123,10 @@ module _ (M : ℕ) {C : Type 0} (value : C → Value) where
 abbrev pub value64 : Value → Value
 value64 c = c
 
-pub every64-stands : (c : Held (limitOf 64) value64) → (i : ℕ) × Stands (limitOf 64) (c .0) i
+pub every64-stands : (c : Typed (limitOf 64) value64) → (i : ℕ) × Stands (limitOf 64) (c .0) i
 every64-stands = every-value-stands (limitOf 64) value64
 
-pub new64-is : (v : Number (limitOf 64)) (r : Value) → r ≡ Fits (v .0) → Stands (limitOf 64) r (v .0)
+pub new64-is : (v : UpTo (limitOf 64)) (r : Value) → r ≡ Fits (v .0) → Stands (limitOf 64) r (v .0)
 new64-is = new-is (limitOf 64) value64
 
 pub new-overflowed64-is : (i : ℕ) → limitOf 64 < i → (r : Value) → r ≡ Overflowed → Stands (limitOf 64) r i
@@ -150,12 +156,12 @@ module _ (self : Value) (i : ℕ) (known : Stands (limitOf 64) self i) where
       )
 
   pub add-value64-is
-      : (v : Number (limitOf 64)) (r : Value) → r ≡ sumOf (limitOf 64) self (Fits (v .0)) →
+      : (v : UpTo (limitOf 64)) (r : Value) → r ≡ sumOf (limitOf 64) self (Fits (v .0)) →
       Stands (limitOf 64) r (i + v .0)
   add-value64-is = add-value-is (limitOf 64) value64 self i known
 
   pub mul-value64-is
-      : (v : Number (limitOf 64)) (r : Value) → r ≡ productOf (limitOf 64) self (Fits (v .0)) →
+      : (v : UpTo (limitOf 64)) (r : Value) → r ≡ productOf (limitOf 64) self (Fits (v .0)) →
       Stands (limitOf 64) r (i * v .0)
   mul-value64-is = mul-value-is (limitOf 64) value64 self i known
 

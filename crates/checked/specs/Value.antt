@@ -59,17 +59,17 @@ abbrev pub OneOverflowed : Value → Value → Type 0
 OneOverflowed a b = (a ≡ Overflowed) ⊎ (b ≡ Overflowed)
 
 -- a number from 0 to M
-abbrev pub Number : ℕ → Type 0
-Number M = (n : ℕ) × (n ≤ M)
+abbrev pub UpTo : ℕ → Type 0
+UpTo M = (n : ℕ) × (n ≤ M)
 
 -- a fitting value is at most M
 abbrev pub Within : ℕ → Value → Type 0
 Within M (Fits n) = n ≤ M
 Within M Overflowed = Unit {0}
 
--- what a type C can hold whose values are seen as values over M: a number from 0 to M, or the note that it is larger
-abbrev pub Held : ℕ → {C : Type 0} → (C → Value) → Type 0
-Held M {C} value = (c : C) × Within M (value c)
+-- a value of a type C, whose values are seen as values over M: it is a number from 0 to M, or the note that it is larger
+abbrev pub Typed : ℕ → {C : Type 0} → (C → Value) → Type 0
+Typed M {C} value = (c : C) × Within M (value c)
 
 -- what may be nothing, as a value
 abbrev pub option : Option64 → Value

@@ -1,6 +1,6 @@
 -- Upstream's `overflow.rs` at 8, 16 and 32 bits: each clause, from the contract of the function of that width, by the
 -- law over the limit on `checked`'s page `overflow`. A number that a function of W bits takes, and one that a value of
--- W bits holds, is from 0 to 2^W - 1 (`Number`, `Held`); `wide`'s contract shows it of every value of the three types.
+-- W bits is, is from 0 to 2^W - 1 (`UpTo`, `Typed`); `wide`'s contract shows it of every value of the three types.
 -- Assumes nothing.
 use mathlib.Core.Path.{_≡_, ap}
 use mathlib.Core.Bool.{Bool, true}
@@ -8,7 +8,7 @@ use mathlib.Core.Logic.{_↔_}
 use Prim.Native.Nat.{ℕ, _+_, _*_, _≤_, _<_}
 use Rattle.checked.specs.declared.refusal.Refusal.the-variants as refusal
 use Rattle.checked.specs.declared.types.Checked64.the-variants.{Fits, Overflowed}
-use Rattle.checked.specs.Value.{limitOf, Stands, Number, Held, isOverflowed, sumOf, productOf}
+use Rattle.checked.specs.Value.{limitOf, Stands, UpTo, Typed, isOverflowed, sumOf, productOf}
 use Rattle.checked.specs.Paper.{plainOf}
 use Rattle.checked.proofs.overflow as law
 use Rattle.narrow.specs.declared.types.Checked8.{Checked8}
@@ -32,11 +32,11 @@ use Rattle.narrow.proofs.Unique.{option8-unique, option16-unique, optio
 
 -- ---- 8 bits
 
-pub every8-stands : (c : Held (limitOf 8) value8) → (i : ℕ) × Stands (limitOf 8) (value8 (c .0)) i
+pub every8-stands : (c : Typed (limitOf 8) value8) → (i : ℕ) × Stands (limitOf 8) (value8 (c .0)) i
 every8-stands = law.every-value-stands (limitOf 8) value8
 
 pub new8-is
-    : (v : Number (limitOf 8)) (r : Checked8) → value8 r ≡ Fits (v .0) → Stands (limitOf 8) (value8 r) (v .0)
+    : (v : UpTo (limitOf 8)) (r : Checked8) → value8 r ≡ Fits (v .0) → Stands (limitOf 8) (value8 r) (v .0)
 new8-is = law.new-is (limitOf 8) value8
 
 pub new-overflowed8-is
@@ -67,12 +67,12 @@ module _ (self : Checked8) (i : ℕ) (known : Stands (limitOf 8) (value8 self) i
       )
 
   pub add-value8-is
-      : (v : Number (limitOf 8)) (r : Checked8) → value8 r ≡ sumOf (limitOf 8) (value8 self) (Fits (v .0)) →
+      : (v : UpTo (limitOf 8)) (r : Checked8) → value8 r ≡ sumOf (limitOf 8) (value8 self) (Fits (v .0)) →
       Stands (limitOf 8) (value8 r) (i + v .0)
   add-value8-is = law.add-value-is (limitOf 8) value8 self i known
 
   pub mul-value8-is
-      : (v : Number (limitOf 8)) (r : Checked8) → value8 r ≡ productOf (limitOf 8) (value8 self) (Fits (v .0)) →
+      : (v : UpTo (limitOf 8)) (r : Checked8) → value8 r ≡ productOf (limitOf 8) (value8 self) (Fits (v .0)) →
       Stands (limitOf 8) (value8 r) (i * v .0)
   mul-value8-is = law.mul-value-is (limitOf 8) value8 self i known
 
@@ -89,11 +89,11 @@ module _ (self : Checked8) (i : ℕ) (known : Stands (limitOf 8) (value8 self) i
 
 -- ---- 16 bits
 
-pub every16-stands : (c : Held (limitOf 16) value16) → (i : ℕ) × Stands (limitOf 16) (value16 (c .0)) i
+pub every16-stands : (c : Typed (limitOf 16) value16) → (i : ℕ) × Stands (limitOf 16) (value16 (c .0)) i
 every16-stands = law.every-value-stands (limitOf 16) value16
 
 pub new16-is
-    : (v : Number (limitOf 16)) (r : Checked16) → value16 r ≡ Fits (v .0) → Stands (limitOf 16) (value16 r) (v .0)
+    : (v : UpTo (limitOf 16)) (r : Checked16) → value16 r ≡ Fits (v .0) → Stands (limitOf 16) (value16 r) (v .0)
 new16-is = law.new-is (limitOf 16) value16
 
 pub new-overflowed16-is
@@ -124,12 +124,12 @@ module _ (self : Checked16) (i : ℕ) (known : Stands (limitOf 16) (value16 self
       )
 
   pub add-value16-is
-      : (v : Number (limitOf 16)) (r : Checked16) → value16 r ≡ sumOf (limitOf 16) (value16 self) (Fits (v .0)) →
+      : (v : UpTo (limitOf 16)) (r : Checked16) → value16 r ≡ sumOf (limitOf 16) (value16 self) (Fits (v .0)) →
       Stands (limitOf 16) (value16 r) (i + v .0)
   add-value16-is = law.add-value-is (limitOf 16) value16 self i known
 
   pub mul-value16-is
-      : (v : Number (limitOf 16)) (r : Checked16) → value16 r ≡ productOf (limitOf 16) (value16 self) (Fits (v .0)) →
+      : (v : UpTo (limitOf 16)) (r : Checked16) → value16 r ≡ productOf (limitOf 16) (value16 self) (Fits (v .0)) →
       Stands (limitOf 16) (value16 r) (i * v .0)
   mul-value16-is = law.mul-value-is (limitOf 16) value16 self i known
 
@@ -146,11 +146,11 @@ module _ (self : Checked16) (i : ℕ) (known : Stands (limitOf 16) (value16 self
 
 -- ---- 32 bits
 
-pub every32-stands : (c : Held (limitOf 32) value32) → (i : ℕ) × Stands (limitOf 32) (value32 (c .0)) i
+pub every32-stands : (c : Typed (limitOf 32) value32) → (i : ℕ) × Stands (limitOf 32) (value32 (c .0)) i
 every32-stands = law.every-value-stands (limitOf 32) value32
 
 pub new32-is
-    : (v : Number (limitOf 32)) (r : Checked32) → value32 r ≡ Fits (v .0) → Stands (limitOf 32) (value32 r) (v .0)
+    : (v : UpTo (limitOf 32)) (r : Checked32) → value32 r ≡ Fits (v .0) → Stands (limitOf 32) (value32 r) (v .0)
 new32-is = law.new-is (limitOf 32) value32
 
 pub new-overflowed32-is
@@ -181,12 +181,12 @@ module _ (self : Checked32) (i : ℕ) (known : Stands (limitOf 32) (value32 self
       )
 
   pub add-value32-is
-      : (v : Number (limitOf 32)) (r : Checked32) → value32 r ≡ sumOf (limitOf 32) (value32 self) (Fits (v .0)) →
+      : (v : UpTo (limitOf 32)) (r : Checked32) → value32 r ≡ sumOf (limitOf 32) (value32 self) (Fits (v .0)) →
       Stands (limitOf 32) (value32 r) (i + v .0)
   add-value32-is = law.add-value-is (limitOf 32) value32 self i known
 
   pub mul-value32-is
-      : (v : Number (limitOf 32)) (r : Checked32) → value32 r ≡ productOf (limitOf 32) (value32 self) (Fits (v .0)) →
+      : (v : UpTo (limitOf 32)) (r : Checked32) → value32 r ≡ productOf (limitOf 32) (value32 self) (Fits (v .0)) →
       Stands (limitOf 32) (value32 r) (i * v .0)
   mul-value32-is = law.mul-value-is (limitOf 32) value32 self i known
 
