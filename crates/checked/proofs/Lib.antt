@@ -6,7 +6,8 @@ pub mod Squares
 pub mod Powers
 pub mod Logarithms
 pub mod Standing
-pub mod Promises
+pub mod Refused
 pub mod Unique
+pub mod Promises
 pub mod overflow
 pub mod Examples

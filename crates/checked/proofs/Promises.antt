@@ -2,19 +2,28 @@
 -- one of these definitions; `Unique` says that no other answer is.
 -- Assumes nothing.
 use mathlib.Core.Path.{_≡_, refl, ap, sym, _∙_, subst}
+use mathlib.Core.Bool.{cond}
 use mathlib.Core.Logic.{_↔_}
-use Prim.Native.Nat.{ℕ, _+_, _-_, _*_, _/_, _%_, _^_, _≤_, _<_}
-use native.Mathlib.Nat.{div-add-mod', mod-lt, div-lt-iff-lt-mul, pow-succ'}
+use Prim.Native.Nat.{ℕ, suc, _+_, _-_, _*_, _/_, _%_, _^_, _≤_, _<_}
+use native.Mathlib.Nat.{div-add-mod', mod-lt, div-lt-iff-lt-mul, pow-zero, pow-succ'}
 use native.Mathlib.Omega.{arith}
+use borrow.Author.Tests.{eq-eqb, ne-eqb, lt-ltb, le-ltb}
+use lib.Dec.{eqb, ltb}
 use lib.Pow.{pow-pos}
 use Rattle.whole.specs.logarithm.{log-of}
 use Rattle.whole.proofs.Naturals.{log-of-zero, log-of-floor, log-of-largest}
+use Rattle.checked.specs.declared.types.Both.{Both}
 use Rattle.checked.specs.declared.types.Checked64.the-variants.{Fits, Overflowed}
-use Rattle.checked.specs.Value.{Value, limitOf, Stands, Within, checkedOf, sumOf, productOf}
-use Rattle.checked.specs.Paper.{given, refused, quotientOf, remainderOf, powerOf, logarithmOf}
+use Rattle.checked.specs.Value.{Value, limitOf, Stands, Within, checkedOf, sumOf, productOf, bothOf}
+use Rattle.checked.specs.Value.{BothNumbers, OneOverflowed}
+use Rattle.checked.specs.Paper.{given, refused, dividedBy, leftBy, powersOf, logOf}
+use Rattle.checked.specs.Paper.{quotientOf, remainderOf, powerOf, logarithmOf, plainOf}
+use Rattle.checked.specs.Pair.{pair, pairOf}
 use Rattle.checked.proofs.Limit.{fits, over, product-overflowed-zero, product-commutes, sum-overflowed-left}
 use Rattle.checked.proofs.Logarithms as logs
 use Rattle.checked.proofs.Standing.{standing, stands, sum-of-values, product-of-values, operation-stands, the-one}
+use Rattle.checked.proofs.Refused as refusals
+use Rattle.checked.proofs.Unique.{pair-unique}
 
 -- ---- the limit, and what a value stands for
 
@@ -55,7 +64,68 @@ overflowed-times-zero M =
 pub overflowed-plus : (M : ℕ) (b : Value) → sumOf M Overflowed b ≡ Overflowed
 overflowed-plus M b = sym (sum-overflowed-left M b)
 
--- ---- quotient, remainder, power, logarithm
+-- ---- the plain number of a value, and both numbers of two
+
+-- a plain number is refused with 3 exactly when the value is overflowed, and is the value's own where it fits
+pub plain-3-exactly : (c : Value) → (plainOf c .code ≡ 3) ↔ (c ≡ Overflowed)
+plain-3-exactly (Fits n) = (λ e. let f : ⊥ = omega arith in absurd f, λ e. absurd (refusals.not-overflowed n e))
+plain-3-exactly Overflowed = (λ e. refl, λ e. refl)
+
+pub plain-given : (n : ℕ) → plainOf (Fits n) ≡ given (Fits n)
+plain-given n = refl
+
+-- what `both` answers, in numbers, is 3 exactly when one of the two is overflowed, and else 0 with both numbers
+pub both-3-exactly : (a b : Value) → (pairOf a b .code ≡ 3) ↔ OneOverflowed a b
+both-3-exactly = refusals.pair-three
+
+pub both-given : (l r : ℕ) → pairOf (Fits l) (Fits r) ≡ record { code = 0; place = 0; left = l; right = r }
+both-given l r = refl
+
+-- and this is what its contract says, no more and no less
+pub both-in-numbers : (a b : Value) (x : Both) → (x ≡ bothOf a b) ↔ (pair x ≡ pairOf a b)
+both-in-numbers a b x =
+    let same = refusals.pair-of-both a b in (λ e. ap pair e ∙ same, λ e. pair-unique x (bothOf a b) (e ∙ sym same))
+
+-- ---- quotient, remainder, power, logarithm: the refusals
+
+-- 3 exactly when an operand is overflowed
+pub quotient-3-exactly : (a b : Value) → (quotientOf a b .code ≡ 3) ↔ OneOverflowed a b
+quotient-3-exactly = refusals.three-exactly dividedBy (λ l r. refusals.divisor-not-three (l / r) r)
+
+pub remainder-3-exactly : (a b : Value) → (remainderOf a b .code ≡ 3) ↔ OneOverflowed a b
+remainder-3-exactly = refusals.three-exactly leftBy (λ l r. refusals.divisor-not-three (l % r) r)
+
+pub power-3-exactly : (M : ℕ) (a b : Value) → (powerOf M a b .code ≡ 3) ↔ OneOverflowed a b
+power-3-exactly M = refusals.three-exactly (powersOf M) (λ l r. refusals.given-not-three (checkedOf M (l ^ r)))
+
+pub logarithm-3-exactly : (a b : Value) → (logarithmOf a b .code ≡ 3) ↔ OneOverflowed a b
+logarithm-3-exactly = refusals.three-exactly logOf (λ l r. refusals.base-not-three (log-of l r) l)
+
+-- 1 exactly when both fit and the divisor is 0
+pub quotient-1-exactly : (a b : Value) → (quotientOf a b .code ≡ 1) ↔ BothNumbers a b (λ l r. r ≡ 0)
+quotient-1-exactly = refusals.one-exactly dividedBy (λ l r. r ≡ 0) (λ l r. refusals.divisor-refused (l / r) r)
+
+pub remainder-1-exactly : (a b : Value) → (remainderOf a b .code ≡ 1) ↔ BothNumbers a b (λ l r. r ≡ 0)
+remainder-1-exactly = refusals.one-exactly leftBy (λ l r. r ≡ 0) (λ l r. refusals.divisor-refused (l % r) r)
+
+-- 2 exactly when both fit and the base is below 2
+pub logarithm-2-exactly : (a b : Value) → (logarithmOf a b .code ≡ 2) ↔ BothNumbers a b (λ l r. l < 2)
+logarithm-2-exactly = refusals.two-exactly logOf (λ l r. l < 2) (λ l r. refusals.base-refused (log-of l r) l)
+
+-- otherwise a value is given: exactly when both fit, and the divisor is above 0 or the base at least 2
+pub quotient-given-exactly : (a b : Value) → (quotientOf a b .code ≡ 0) ↔ BothNumbers a b (λ l r. 0 < r)
+quotient-given-exactly = refusals.given-exactly dividedBy (λ l r. 0 < r) (λ l r. refusals.divisor-passes (l / r) r)
+
+pub remainder-given-exactly : (a b : Value) → (remainderOf a b .code ≡ 0) ↔ BothNumbers a b (λ l r. 0 < r)
+remainder-given-exactly = refusals.given-exactly leftBy (λ l r. 0 < r) (λ l r. refusals.divisor-passes (l % r) r)
+
+pub power-given-exactly : (M : ℕ) (a b : Value) → (powerOf M a b .code ≡ 0) ↔ BothNumbers a b (λ l r. Unit {0})
+power-given-exactly M =
+    refusals.given-exactly (powersOf M) (λ l r. Unit {0})
+    (λ l r. (λ e. tt, λ u. refusals.given-code (checkedOf M (l ^ r))))
+
+pub logarithm-given-exactly : (a b : Value) → (logarithmOf a b .code ≡ 0) ↔ BothNumbers a b (λ l r. 2 ≤ l)
+logarithm-given-exactly = refusals.given-exactly logOf (λ l r. 2 ≤ l) (λ l r. refusals.base-passes (log-of l r) l)
 
 -- an overflowed operand is refused with 3, whatever the other is
 pub overflowed-refused
@@ -71,9 +141,31 @@ pub by-overflowed-refused
     × (logarithmOf (Fits l) Overflowed ≡ refused 3)
 by-overflowed-refused M l = (refl, refl, refl, refl)
 
--- l = q * r + m with m < r
-pub quotient-and-remainder : (l r : ℕ) → 0 < r → (l ≡ l / r * r + l % r) × (l % r < r)
-quotient-and-remainder l r h = (sym (div-add-mod' l r), mod-lt l h)
+-- where both fit, a divisor 0 is refused with 1 and a base below 2 with 2
+pub divisor-0-refused
+    : (l : ℕ) → (quotientOf (Fits l) (Fits 0) ≡ refused 1) × (remainderOf (Fits l) (Fits 0) ≡ refused 1)
+divisor-0-refused l = (refl, refl)
+
+pub small-base-refused : (l r : ℕ) → l < 2 → logarithmOf (Fits l) (Fits r) ≡ refused 2
+small-base-refused l r h = ap (λ t. cond t (refused 2) (given (Fits (log-of l r)))) (lt-ltb l 2 h)
+
+-- ---- quotient, remainder, power, logarithm: the values
+
+-- the quotient q and the remainder m of l by r: l = q * r + m with m < r
+pub quotient-and-remainder
+    : (l r : ℕ) → 0 < r →
+    (q : ℕ) × (m : ℕ)
+    × (quotientOf (Fits l) (Fits r) ≡ given (Fits q)) × (remainderOf (Fits l) (Fits r) ≡ given (Fits m))
+    × (l ≡ q * r + m) × (m < r)
+quotient-and-remainder l r h =
+    let t = ne-eqb r 0 (λ e. omega arith) in (
+      l / r,
+      l % r,
+      ap (λ t. cond t (refused 1) (given (Fits (l / r)))) t,
+      ap (λ t. cond t (refused 1) (given (Fits (l % r)))) t,
+      sym (div-add-mod' l r),
+      mod-lt l h,
+    )
 
 -- a power is l^r if that is at most M, and overflowed if it is above
 pub power-fits : (M l r : ℕ) → l ^ r ≤ M → powerOf M (Fits l) (Fits r) ≡ given (Fits (l ^ r))
@@ -82,7 +174,23 @@ power-fits M l r h = ap given (sym (fits M (l ^ r) h))
 pub power-overflows : (M l r : ℕ) → M < l ^ r → powerOf M (Fits l) (Fits r) ≡ given Overflowed
 power-overflows M l r h = ap given (sym (over M (l ^ r) h))
 
--- the logarithm of 0 is 0; of any other number it is the largest e with l^e <= r
+-- by 0 it is 1, of 0 too
+pub power-by-0 : (M l : ℕ) → 0 < M → powerOf M (Fits l) (Fits 0) ≡ given (Fits 1)
+power-by-0 M l h = ap (λ n. given (checkedOf M n)) (pow-zero l) ∙ ap given (sym (fits M 1 h))
+
+-- a logarithm of 0 is 0; of any other number it is the one e with l^e <= r < l^(e + 1)
+pub logarithm-of-0 : (l : ℕ) → 1 < l → logarithmOf (Fits l) (Fits 0) ≡ given (Fits 0)
+logarithm-of-0 l h =
+    ap (λ t. cond t (refused 2) (given (Fits (log-of l 0)))) (le-ltb l 2 h) ∙ ap (λ e. given (Fits e)) (log-of-zero l)
+
+pub logarithm-between
+    : (l r : ℕ) → 1 < l → 0 < r →
+    (e : ℕ) × (logarithmOf (Fits l) (Fits r) ≡ given (Fits e)) × (l ^ e ≤ r) × (r < l ^ suc e)
+logarithm-between l r h k =
+    let b = log-of-floor l r h k in
+    (log-of l r, ap (λ t. cond t (refused 2) (given (Fits (log-of l r)))) (le-ltb l 2 h), b .0, b .1)
+
+-- the same of the logarithm itself, for every base and exponent: it is the largest e with l^e <= r
 pub log-of-nothing : (l : ℕ) → log-of l 0 ≡ 0
 log-of-nothing = log-of-zero
 

@@ -17,8 +17,11 @@ use Rattle.checked.specs.declared.types.Plain64.{Plain64}
 use Rattle.checked.specs.declared.types.Plain64.the-variants as p64
 use Rattle.checked.specs.declared.types.Option64.{Option64}
 use Rattle.checked.specs.declared.types.Option64.the-variants as o64
+use Rattle.checked.specs.declared.types.Both.{Both}
+use Rattle.checked.specs.declared.types.Both.the-variants as both
 use Rattle.checked.specs.Value.{Value, option}
 use Rattle.checked.specs.Paper.{Paper, paper, plain, numberOf}
+use Rattle.checked.specs.Pair.{Pair, pair}
 
 -- what has a way back is determined by where it goes
 pub one : {A B : Type 0} (f : A → B) (back : B → A) → ((x : A) → back (f x) ≡ x) → (x y : A) → f x ≡ f y → x ≡ y
@@ -132,3 +135,8 @@ plain-unique =
 
 pub option-unique : (x y : Option64) → option x ≡ option y → x ≡ y
 option-unique = one option (elim [ c64.Fits n ↦ o64.Some n | c64.Overflowed ↦ o64.None ]) (elim [ o64.Some n ↦ refl | o64.None ↦ refl ])
+
+pub pair-unique : (x y : Both) → pair x ≡ pair y → x ≡ y
+pair-unique =
+    one pair (λ p. cond (eqb (p .code) 0) (both.Numbers (p .left) (p .right)) both.Overflowed)
+    (elim [ both.Numbers l r ↦ refl | both.Overflowed ↦ refl ])

@@ -3,6 +3,7 @@
 -- Assumes nothing.
 use mathlib.Core.Path.{_≡_}
 use mathlib.Core.Bool.{Bool, true, false, cond}
+use mathlib.Core.Logic.{_⊎_}
 use Prim.Native.Nat.{ℕ, suc, _+_, _*_, _-_, _^_, _≤_, _<_}
 use lib.Dec.{leb}
 use Rattle.checked.specs.declared.types.Checked64.{Checked64}
@@ -49,10 +50,26 @@ bothOf Overflowed b = both.Overflowed
 bothOf (Fits m) Overflowed = both.Overflowed
 bothOf (Fits m) (Fits n) = both.Numbers m n
 
+-- both fit, with numbers of which P holds
+abbrev pub BothNumbers : Value → Value → (ℕ → ℕ → Type 0) → Type 0
+BothNumbers a b P = (l : ℕ) × (r : ℕ) × (a ≡ Fits l) × (b ≡ Fits r) × P l r
+
+-- one of the two is overflowed, or both are
+abbrev pub OneOverflowed : Value → Value → Type 0
+OneOverflowed a b = (a ≡ Overflowed) ⊎ (b ≡ Overflowed)
+
+-- a number from 0 to M
+abbrev pub UpTo : ℕ → Type 0
+UpTo M = (n : ℕ) × (n ≤ M)
+
 -- a fitting value is at most M
 abbrev pub Within : ℕ → Value → Type 0
 Within M (Fits n) = n ≤ M
 Within M Overflowed = Unit {0}
+
+-- a value of a type C, whose values are seen as values over M: it is a number from 0 to M, or the note that it is larger
+abbrev pub Typed : ℕ → {C : Type 0} → (C → Value) → Type 0
+Typed M {C} value = (c : C) × Within M (value c)
 
 -- what may be nothing, as a value
 abbrev pub option : Option64 → Value

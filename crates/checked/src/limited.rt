@@ -166,7 +166,7 @@ pub fn add_value(limit: u64, c: Checked64, n: u64) -> Checked64
 {
     match c {
         Checked64::Fits(m) => checked_add(limit, m, n),
-        Checked64::Overflowed => Checked64::Overflowed,
+        Checked64::Overflowed => Checked64::Overflowed, // whatever n is
     }
 }
 
@@ -176,7 +176,7 @@ pub fn add_checked(limit: u64, a: Checked64, b: Checked64) -> Checked64
 {
     match b {
         Checked64::Fits(n) => add_value(limit, a, n),
-        Checked64::Overflowed => Checked64::Overflowed,
+        Checked64::Overflowed => Checked64::Overflowed, // whatever a is
     }
 }
 

@@ -1,19 +1,21 @@
--- What upstream's text leaves open on quotients, remainders and logarithms, closed: one named theorem for each gap. Its four files state none of these.
+-- What upstream's text leaves open on quotients, remainders and logarithms, closed: one named theorem for each gap.
+-- Where its files state a theorem in part, or state it and it follows here from another, the line above it says so.
 -- Assumes nothing.
 use mathlib.Core.Path.{_≡_}
 use mathlib.Core.Bool.{true, false}
-use mathlib.Core.Logic.{_≢_, _↔_}
+use mathlib.Core.Logic.{_≢_}
 use Prim.Native.Nat.{ℕ, zero, suc, _/_, _<_}
 use native.Mathlib.Nat.{not-suc-le-zero, zero-div}
 use native.Mathlib.Omega.{arith}
-use lib.IntN.{ℤ, pos, negsuc, negℤ, natAbs, _+ℤ_, _-ℤ_, _*ℤ_}
+use lib.IntN.{ℤ, pos, negsuc, negℤ, natAbs, _+ℤ_, _*ℤ_}
 use lib.Signed.{_≤ℤ_, _<ℤ_}
-use Rattle.whole.specs.div-mod.{_/ℤ_, _%ℤ_, _below_, ∣_∣, rust-div, rust-rem}
+use Rattle.whole.specs.div-mod.{_/ℤ_, _%ℤ_, _below_, ∣_∣, is-mod-equivalent, rust-div, rust-rem}
 use Rattle.whole.specs.power.{pow}
 use Rattle.whole.specs.logarithm.{log, ends}
 use Rattle.whole.proofs.Difference.{⟨_⟩, _⊕_, _⊗_, equalℤ}
 use Rattle.whole.proofs.Euclid.{_%%_, bound, unique, determined, shifted}
-use Rattle.whole.proofs.div-mod.{lemma-div-is-ordered, lemma-div-by-multiple, lemma-mod-equivalence, lemma-mod-mul-equivalent, part-exact}
+use Rattle.whole.proofs.div-mod.{lemma-div-is-ordered, lemma-div-by-multiple, by-zero, part-exact}
+use Rattle.whole.proofs.div-mod.{lemma-mod-equivalence, lemma-mod-mul-equivalent}
 use Rattle.whole.proofs.power.{lemma-pow0}
 use Rattle.whole.proofs.logarithm.{log-unfold, log-floor, log-natural, log-largest, log-unique, log-of-0, lemma-log-pow, lemma-log-is-ordered}
 use Rattle.whole.proofs.Truncating.{rust-fundamental, rust-rem-size, rust-rem-sign-positive, rust-rem-sign-negative, rust-div-of-0, rust-div-is}
@@ -21,8 +23,8 @@ use Rattle.whole.proofs.Truncating.{rust-fundamental, rust-rem-size, ru
 -- ---- the truncating quotient and remainder
 
 -- they belong together
-pub truncating-together : (a b : ℤ) → b ≢ pos 0 → a ≡ b *ℤ rust-div a b +ℤ rust-rem a b
-truncating-together a b n = rust-fundamental a b
+pub truncating-together : (a b : ℤ) → a ≡ b *ℤ rust-div a b +ℤ rust-rem a b
+truncating-together = rust-fundamental
 
 -- the remainder is smaller than the divisor
 pub truncating-remainder-size : (a b : ℤ) → b ≢ pos 0 → ∣ rust-rem a b ∣ <ℤ ∣ b ∣
@@ -51,6 +53,10 @@ truncating-quotient (suc a) (suc b) h =
 pub remainder-bound : (x d : ℤ) → d ≢ pos 0 → (x %ℤ d) below ∣ d ∣
 remainder-bound = bound
 
+-- by 0 it is the dividend
+pub remainder-by-zero : (x : ℤ) → x %ℤ pos 0 ≡ x
+remainder-by-zero = by-zero
+
 -- two quotients and remainders that give one number are the same
 pub division-unique : (d q r p s : ℤ) → r below ∣ d ∣ → s below ∣ d ∣ → d *ℤ q +ℤ r ≡ d *ℤ p +ℤ s → (q ≡ p) × (r ≡ s)
 division-unique d q r p s = unique d
@@ -61,7 +67,7 @@ division-determined = determined
 
 -- ---- the logarithm
 
--- upstream's recursive equation, for every base and argument
+-- upstream's recursive equation, which is its definition, for every base and argument
 pub log-equation
     : (base pow : ℤ) → (ends base pow ≡ true → log base pow ≡ pos 0) × (ends base pow ≡ false → log base pow ≡ pos 1 +ℤ log base (pow /ℤ base))
 log-equation = log-unfold
@@ -82,10 +88,12 @@ log-is-largest = log-largest
 pub log-is-unique : (l r : ℤ) (e : ℕ) → pos 1 <ℤ l → pow l e ≤ℤ r → r <ℤ pow l (suc e) → log l r ≡ pos e
 log-is-unique l r e h low high = log-unique l r e h (low, high)
 
--- for 0 there is no such exponent: its logarithm is 0 by definition
+-- for 0 there is no such exponent: its logarithm is 0 by definition, for every base (upstream's `lemma_log0` states it
+-- for a base above 1)
 pub log-of-nothing : (l : ℤ) → log l (pos 0) ≡ pos 0
 log-of-nothing = log-of-0
 
+-- upstream states this and the next; here they follow from the specification
 pub log-of-power : (l : ℤ) (n : ℕ) → pos 1 <ℤ l → log l (pow l n) ≡ pos n
 log-of-power = lemma-log-pow
 
@@ -94,15 +102,16 @@ log-keeps-order = lemma-log-is-ordered
 
 -- ---- remainders of products
 
--- `is_mod_equivalent` holds of any two numbers, so that a lemma which asks it and gives it says nothing
-pub mod-equivalent-always : (x y m : ℤ) → pos 0 <ℤ m → (x %ℤ m ≡ y %ℤ m) ↔ ((x -ℤ y) %ℤ m ≡ pos 0)
+-- `is_mod_equivalent` holds of any two numbers and every divisor, so that a lemma which asks it and gives it says
+-- nothing (upstream's `lemma_mod_equivalence` states it for a divisor above 0)
+pub mod-equivalent-always : (x y m : ℤ) → is-mod-equivalent x y m
 mod-equivalent-always = lemma-mod-equivalence
 
 -- what it was to say: equal remainders before give equal remainders after multiplying
 pub equal-remainders-multiplied : (x y z m : ℤ) → x %ℤ m ≡ y %ℤ m → x *ℤ z %ℤ m ≡ y *ℤ z %ℤ m
 equal-remainders-multiplied = lemma-mod-mul-equivalent
 
--- ---- the two functions that the text leaves out
+-- ---- the two functions that the text leaves out, with their comments
 
 pub quotient-keeps-order : (x y z : ℤ) → x ≤ℤ y → pos 0 <ℤ z → (x /ℤ z) ≤ℤ (y /ℤ z)
 quotient-keeps-order = lemma-div-is-ordered

@@ -1,14 +1,14 @@
 -- Quotients and remainders of whole numbers: the laws of upstream's `div_mod.rs`, under its names, from the facts of `Euclid`.
--- Where upstream asks more than a law needs, the law here asks less: most laws on %ℤ hold for any divisor.
+-- Where upstream asks more than a law needs, most laws here ask less: those on %ℤ alone mostly hold for any divisor.
 -- Assumes nothing.
 use mathlib.Core.Path.{_≡_, refl, ap, sym, _∙_, subst}
-use mathlib.Core.Logic.{_≢_, _↔_}
+use mathlib.Core.Logic.{_≢_, ⊎-elim}
 use native.Mathlib.Omega.{arith}
 use lib.IntN.{ℤ, pos, negsuc, negℤ, _+ℤ_, _-ℤ_, _*ℤ_, +ℤ-idr, +ℤ-comm, +ℤ-invr}
 use lib.Signed.{_≤ℤ_, _<ℤ_, ≤ℤ-refl, <ℤ-≤ℤ-trans, clashℤ}
-use Rattle.whole.specs.div-mod.{_/ℤ_, _%ℤ_, _below_, ∣_∣}
+use Rattle.whole.specs.div-mod.{_/ℤ_, _%ℤ_, _below_, ∣_∣, is-mod-equivalent}
 use Rattle.whole.proofs.Difference.{⟨_⟩, #, _⊕_, _⊝_, _⊗_, ⊖_, equalℤ, leℤ, ltℤ, equalℤ⁻¹, leℤ⁻¹, ltℤ⁻¹, atmost-of, less-of, whole, cross, cross-strict}
-use Rattle.whole.proofs.Order.{≤ℤ-trans, ≤ℤ-<ℤ-trans, <ℤ→≤ℤ, ≡→≤ℤ, ≮ℤ→≤ℤ, positive→≢0}
+use Rattle.whole.proofs.Order.{≤ℤ-trans, ≤ℤ-<ℤ-trans, <ℤ→≤ℤ, ≡→≤ℤ, ≮ℤ→≤ℤ, equal-or-not, positive→≢0}
 use Rattle.whole.proofs.mul.{lemma-mul-basics-2, lemma-mul-basics-3, lemma-mul-basics-4, lemma-mul-is-commutative, lemma-mul-inequality, lemma-mul-left-inequality, lemma-mul-nonnegative, lemma-mul-strictly-positive, lemma-mul-strictly-increases, lemma-mul-increases}
 use Rattle.whole.proofs.Euclid.{_%%_, fundamental, bound, bound-positive, determined, shifted, same-remainder, times-quotient, times-at-most, less-than-times}
 
@@ -51,6 +51,24 @@ exact x d q n e =
 
 multiple : (x d : ℤ) → x %ℤ d ≡ pos 0 → x ≡ d *ℤ (x /ℤ d)
 multiple x d e = fundamental x d ∙ ap (λ r. d *ℤ (x /ℤ d) +ℤ r) e ∙ +ℤ-idr (d *ℤ (x /ℤ d))
+
+-- by 0 the remainder is the dividend
+pub by-zero : (x : ℤ) → x %ℤ pos 0 ≡ x
+by-zero x = equalℤ (⟨ x ⟩ %% # 0) ⟨ x ⟩ (omega arith)
+
+-- a fact of remainders that holds for 0 and for every other divisor holds for all
+any-divisor : (P : ℤ → Type 0) → P (pos 0) → ((d : ℤ) → d ≢ pos 0 → P d) → (d : ℤ) → P d
+any-divisor P zeroth other d = ⊎-elim (λ z. subst P (sym z) zeroth) (other d) (equal-or-not d (pos 0))
+
+-- 0 leaves 0, whatever the divisor
+nothing-left : (d : ℤ) → pos 0 %ℤ d ≡ pos 0
+nothing-left =
+    any-divisor (λ d. pos 0 %ℤ d ≡ pos 0) (by-zero (pos 0))
+    (λ d n. sym (exact (pos 0) d (pos 0) n (sym (lemma-mul-basics-2 d)) .1))
+
+-- what is from 0 to |d| - 1 is its own remainder
+small-left : (x d : ℤ) → x below ∣ d ∣ → x %ℤ d ≡ x
+small-left x d h = sym (determined x d (pos 0) x h (equalℤ ⟨ x ⟩ (⟨ d ⟩ ⊗ # 0 ⊕ ⟨ x ⟩) (omega arith)) .1)
 
 -- ---- multiples of the divisor
 
@@ -124,8 +142,9 @@ pub lemma-multiply-divide-lt : (a b c : ℤ) → pos 0 <ℤ b → a <ℤ (b *ℤ
 lemma-multiply-divide-lt = less-than-times
 
 -- x / d * d <= x
-pub lemma-remainder-lower : (x d : ℤ) → pos 0 <ℤ d → (x /ℤ d *ℤ d) ≤ℤ x
-lemma-remainder-lower x d h = leℤ (⟨ x /ℤ d ⟩ ⊗ ⟨ d ⟩) ⟨ x ⟩ (omega (arith, leℤ⁻¹ (# 0) (⟨ x ⟩ %% ⟨ d ⟩) (bound-positive x d h .0)))
+pub lemma-remainder-lower : (x d : ℤ) → d ≢ pos 0 → (x /ℤ d *ℤ d) ≤ℤ x
+lemma-remainder-lower x d n =
+    leℤ (⟨ x /ℤ d ⟩ ⊗ ⟨ d ⟩) ⟨ x ⟩ (omega (arith, leℤ⁻¹ (# 0) (⟨ x ⟩ %% ⟨ d ⟩) (bound x d n .0)))
 
 -- x - d < x / d * d
 pub lemma-remainder-upper : (x d : ℤ) → pos 0 <ℤ d → (x -ℤ d) <ℤ (x /ℤ d *ℤ d)
@@ -192,8 +211,8 @@ lemma-mul-hoist-inequality x y z k h =
     (leℤ (⟨ z ⟩ ⊗ (⟨ x ⟩ ⊗ ⟨ y /ℤ z ⟩)) (⟨ x ⟩ ⊗ ⟨ y ⟩) (omega (arith, cross (atmost-of (pos 0) x k) (leℤ⁻¹ (⟨ z ⟩ ⊗ ⟨ y /ℤ z ⟩) ⟨ y ⟩ (times-quotient y z h)))))
 
 -- b between the same two multiples of d as a has a's quotient
-pub lemma-indistinguishable-quotients : (a b d : ℤ) → pos 0 <ℤ d → (a -ℤ a %ℤ d) ≤ℤ b → b <ℤ (a +ℤ d -ℤ a %ℤ d) → a /ℤ d ≡ b /ℤ d
-lemma-indistinguishable-quotients a b d h k l =
+pub lemma-indistinguishable-quotients : (a b d : ℤ) → (a -ℤ a %ℤ d) ≤ℤ b → b <ℤ (a +ℤ d -ℤ a %ℤ d) → a /ℤ d ≡ b /ℤ d
+lemma-indistinguishable-quotients a b d k l =
     determined b d (a /ℤ d) (b -ℤ d *ℤ (a /ℤ d))
     (below-size d (b -ℤ d *ℤ (a /ℤ d)) (
       leℤ (# 0) (⟨ b ⟩ ⊝ ⟨ d ⟩ ⊗ ⟨ a /ℤ d ⟩) (omega (arith, leℤ⁻¹ (⟨ a ⟩ ⊝ ⟨ a ⟩ %% ⟨ d ⟩) ⟨ b ⟩ k)),
@@ -282,12 +301,14 @@ lemma-mod-division-less-than-divisor = bound-positive
 
 -- 0 <= x < m gives x % m == x
 pub lemma-small-mod : (x m : ℤ) → x below m → x %ℤ m ≡ x
-lemma-small-mod x m h = sym (determined x m (pos 0) x (below-size m x h) (equalℤ ⟨ x ⟩ (⟨ m ⟩ ⊗ # 0 ⊕ ⟨ x ⟩) (omega arith)) .1)
+lemma-small-mod x m h = small-left x m (below-size m x h)
 
 -- x >= 0 gives x % m <= x
-pub lemma-mod-decreases : (x m : ℤ) → pos 0 ≤ℤ x → pos 0 <ℤ m → (x %ℤ m) ≤ℤ x
-lemma-mod-decreases x m k h =
-    leℤ (⟨ x ⟩ %% ⟨ m ⟩) ⟨ x ⟩ (omega (arith, cross (atmost-of (pos 0) m (<ℤ→≤ℤ h)) (atmost-of (pos 0) (x /ℤ m) (lemma-div-pos-is-pos x m k h))))
+pub lemma-mod-decreases : (x m : ℤ) → pos 0 ≤ℤ x → (x %ℤ m) ≤ℤ x
+lemma-mod-decreases x m k =
+    any-divisor (λ d. (x %ℤ d) ≤ℤ x) (≡→≤ℤ (by-zero x))
+    (λ d n. ≮ℤ→≤ℤ λ (l : x <ℤ (x %ℤ d)).
+    clashℤ l (≡→≤ℤ (small-left x d (k, ≤ℤ-<ℤ-trans (<ℤ→≤ℤ l) (bound x d n .1))))) m
 
 -- x > 0 and x % m == 0 give x >= m
 pub lemma-mod-is-zero : (x m : ℤ) → pos 0 <ℤ x → x %ℤ m ≡ pos 0 → m ≤ℤ x
@@ -328,12 +349,14 @@ lemma-mod-sub-multiples-vanish b m =
     same-remainder (negℤ m +ℤ b) b (negℤ (pos 1)) m (equalℤ (⊖ ⟨ m ⟩ ⊕ ⟨ b ⟩) (⟨ m ⟩ ⊗ ⊖ # 1 ⊕ ⟨ b ⟩) (omega arith))
 
 -- (x * m) % m == 0
-pub lemma-mod-multiples-basic : (x m : ℤ) → m ≢ pos 0 → x *ℤ m %ℤ m ≡ pos 0
-lemma-mod-multiples-basic x m n = sym (exact (x *ℤ m) m x n (lemma-mul-is-commutative x m) .1)
+pub lemma-mod-multiples-basic : (x m : ℤ) → x *ℤ m %ℤ m ≡ pos 0
+lemma-mod-multiples-basic x m =
+    same-remainder (x *ℤ m) (pos 0) x m (equalℤ (⟨ x ⟩ ⊗ ⟨ m ⟩) (⟨ m ⟩ ⊗ ⟨ x ⟩ ⊕ # 0) (omega arith)) ∙ nothing-left m
 
 -- m % m == 0
-pub lemma-mod-self-0 : (m : ℤ) → m ≢ pos 0 → m %ℤ m ≡ pos 0
-lemma-mod-self-0 m n = sym (exact m m (pos 1) n (sym (lemma-mul-basics-3 m)) .1)
+pub lemma-mod-self-0 : (m : ℤ) → m %ℤ m ≡ pos 0
+lemma-mod-self-0 m =
+    same-remainder m (pos 0) (pos 1) m (equalℤ ⟨ m ⟩ (⟨ m ⟩ ⊗ # 1 ⊕ # 0) (omega arith)) ∙ nothing-left m
 
 -- (x % m) % m == x % m
 pub lemma-mod-twice : (x m : ℤ) → x %ℤ m %ℤ m ≡ x %ℤ m
@@ -393,32 +416,53 @@ lemma-mod-mod x a b h k = (
 )
 
 -- 0 <= s <= x % d gives x % d - s % d == (x - s) % d
-pub lemma-mod-subtraction : (x s d : ℤ) → pos 0 <ℤ d → pos 0 ≤ℤ s → s ≤ℤ (x %ℤ d) → x %ℤ d -ℤ s %ℤ d ≡ (x -ℤ s) %ℤ d
-lemma-mod-subtraction x s d h k l =
-    ap (λ r. x %ℤ d -ℤ r) (lemma-small-mod s d (k, ≤ℤ-<ℤ-trans l (bound-positive x d h .1)))
-    ∙ lemma-fundamental-div-mod-converse-mod (x -ℤ s) d (x /ℤ d) (x %ℤ d -ℤ s)
-    (leℤ (# 0) (⟨ x %ℤ d ⟩ ⊝ ⟨ s ⟩) (omega (arith, whole)), ltℤ (⟨ x %ℤ d ⟩ ⊝ ⟨ s ⟩) ⟨ d ⟩ (omega (arith, whole, less-of (x %ℤ d) d (bound-positive x d h .1))))
-    (equalℤ (⟨ x ⟩ ⊝ ⟨ s ⟩) (⟨ x /ℤ d ⟩ ⊗ ⟨ d ⟩ ⊕ (⟨ x ⟩ %% ⟨ d ⟩ ⊝ ⟨ s ⟩)) (omega arith))
+pub lemma-mod-subtraction : (x s d : ℤ) → pos 0 ≤ℤ s → s ≤ℤ (x %ℤ d) → x %ℤ d -ℤ s %ℤ d ≡ (x -ℤ s) %ℤ d
+lemma-mod-subtraction x s d k =
+    any-divisor (λ d. s ≤ℤ (x %ℤ d) → x %ℤ d -ℤ s %ℤ d ≡ (x -ℤ s) %ℤ d)
+    (λ l. ap (λ r. r -ℤ s %ℤ pos 0) (by-zero x) ∙ ap (λ r. x -ℤ r) (by-zero s) ∙ sym (by-zero (x -ℤ s))) subtracted d
+  where
+    subtracted : (d : ℤ) → d ≢ pos 0 → s ≤ℤ (x %ℤ d) → x %ℤ d -ℤ s %ℤ d ≡ (x -ℤ s) %ℤ d
+    subtracted d n l =
+        let b = bound x d n in
+        ap (λ r. x %ℤ d -ℤ r) (small-left s d (k, ≤ℤ-<ℤ-trans l (b .1)))
+        ∙ determined (x -ℤ s) d (x /ℤ d) (x %ℤ d -ℤ s) (
+          leℤ (# 0) (⟨ x %ℤ d ⟩ ⊝ ⟨ s ⟩) (omega (arith, whole)),
+          ltℤ (⟨ x %ℤ d ⟩ ⊝ ⟨ s ⟩) ⟨ ∣ d ∣ ⟩ (omega (arith, whole, less-of (x %ℤ d) ∣ d ∣ (b .1))),
+        ) (equalℤ (⟨ x ⟩ ⊝ ⟨ s ⟩) (⟨ d ⟩ ⊗ ⟨ x /ℤ d ⟩ ⊕ (⟨ x ⟩ %% ⟨ d ⟩ ⊝ ⟨ s ⟩)) (omega arith)) .1
 
 -- a % d + b % d == (a + b) % d + d * ((a % d + b % d) / d), and without the last term where the sum is below d
 pub lemma-mod-adds
-    : (a b d : ℤ) → pos 0 <ℤ d →
+    : (a b d : ℤ) →
     (a %ℤ d +ℤ b %ℤ d ≡ (a +ℤ b) %ℤ d +ℤ d *ℤ ((a %ℤ d +ℤ b %ℤ d) /ℤ d)) × ((a %ℤ d +ℤ b %ℤ d) <ℤ d → a %ℤ d +ℤ b %ℤ d ≡ (a +ℤ b) %ℤ d)
-lemma-mod-adds a b d h =
-    let t = a %ℤ d +ℤ b %ℤ d in
-    let k : pos 0 ≤ℤ t = leℤ (# 0) (⟨ a %ℤ d ⟩ ⊕ ⟨ b %ℤ d ⟩) (omega (arith, atmost-of (pos 0) (a %ℤ d) (bound-positive a d h .0), atmost-of (pos 0) (b %ℤ d) (bound-positive b d h .0))) in (
+lemma-mod-adds a b d =
+    let t = a %ℤ d +ℤ b %ℤ d in (
       fundamental t d ∙ +ℤ-comm (d *ℤ (t /ℤ d)) (t %ℤ d) ∙ ap (λ r. r +ℤ d *ℤ (t /ℤ d)) (lemma-add-mod-noop a b d),
-      λ (l : t <ℤ d). sym (lemma-small-mod t d (k, l)) ∙ lemma-add-mod-noop a b d,
+      λ (l : t <ℤ d). sym (unchanged d l) ∙ lemma-add-mod-noop a b d,
     )
+  where
+    unchanged : (d : ℤ) → (a %ℤ d +ℤ b %ℤ d) <ℤ d → (a %ℤ d +ℤ b %ℤ d) %ℤ d ≡ a %ℤ d +ℤ b %ℤ d
+    unchanged =
+        any-divisor (λ d. (a %ℤ d +ℤ b %ℤ d) <ℤ d → (a %ℤ d +ℤ b %ℤ d) %ℤ d ≡ a %ℤ d +ℤ b %ℤ d)
+        (λ l. by-zero (a %ℤ pos 0 +ℤ b %ℤ pos 0))
+        (λ d n l. lemma-small-mod (a %ℤ d +ℤ b %ℤ d) d (
+          leℤ (# 0) (⟨ a %ℤ d ⟩ ⊕ ⟨ b %ℤ d ⟩)
+              (omega (
+                arith,
+                atmost-of (pos 0) (a %ℤ d) (bound a d n .0),
+                atmost-of (pos 0) (b %ℤ d) (bound b d n .0),
+              )),
+          l,
+        ))
 
 -- x % m == y % m exactly when (x - y) % m == 0
-pub lemma-mod-equivalence : (x y m : ℤ) → pos 0 <ℤ m → (x %ℤ m ≡ y %ℤ m) ↔ ((x -ℤ y) %ℤ m ≡ pos 0)
-lemma-mod-equivalence x y m h = (
-  λ e. sym (lemma-sub-mod-noop x y m) ∙ ap (λ r. (r -ℤ y %ℤ m) %ℤ m) e ∙ ap (λ r. r %ℤ m) (+ℤ-invr (y %ℤ m)) ∙ lemma-small-mod (pos 0) m (≤ℤ-refl (pos 0), h),
+pub lemma-mod-equivalence : (x y m : ℤ) → is-mod-equivalent x y m
+lemma-mod-equivalence x y m = (
+  λ e. sym (lemma-sub-mod-noop x y m) ∙ ap (λ r. (r -ℤ y %ℤ m) %ℤ m) e ∙ ap (λ r. r %ℤ m) (+ℤ-invr (y %ℤ m))
+      ∙ nothing-left m,
   λ e. same-remainder x y ((x -ℤ y) /ℤ m) m (equalℤ ⟨ x ⟩ (⟨ m ⟩ ⊗ ⟨ (x -ℤ y) /ℤ m ⟩ ⊕ ⟨ y ⟩) (omega (arith, equalℤ⁻¹ (⟨ x ⟩ ⊝ ⟨ y ⟩) (⟨ m ⟩ ⊗ ⟨ (x -ℤ y) /ℤ m ⟩) (multiple (x -ℤ y) m e)))),
 )
 
--- equal remainders before give equal remainders after multiplying. (Upstream's `is_mod_equivalent` is the statement of
--- `lemma-mod-equivalence`, which holds for every x and y, so that its lemma of this name says nothing.)
+-- equal remainders before give equal remainders after multiplying. (Upstream asks and gives `is_mod_equivalent`, which
+-- holds of every x, y and m, so that its lemma of this name says nothing.)
 pub lemma-mod-mul-equivalent : (x y z m : ℤ) → x %ℤ m ≡ y %ℤ m → x *ℤ z %ℤ m ≡ y *ℤ z %ℤ m
 lemma-mod-mul-equivalent x y z m e = sym (lemma-mul-mod-noop-left x z m) ∙ ap (λ r. r *ℤ z %ℤ m) e ∙ lemma-mul-mod-noop-left y z m

@@ -1,7 +1,6 @@
 -- Powers of whole numbers: the laws of upstream's `power.rs`, under its names.
 -- Assumes nothing.
 use mathlib.Core.Path.{_≡_, refl, ap, ap₂, sym, _∙_, subst}
-use mathlib.Core.Logic.{_≢_}
 use Prim.Native.Nat.{ℕ, zero, suc, _+_, _-_, _*_, _≤_, _<_}
 use native.Mathlib.Nat.{zero-add, suc-add, mul-zero, mul-suc, mul-assoc, sub-add-cancel}
 use native.Mathlib.Decide.{decLe, decLt}
@@ -163,10 +162,10 @@ lemma-pow-division-inequality x b e1 e2 h k l =
     )
 
 -- pow(b, e) % b == 0 for e > 0
-pub lemma-pow-mod : (b : ℤ) (e : ℕ) → b ≢ pos 0 → 0 < e → pow b e %ℤ b ≡ pos 0
-lemma-pow-mod b zero n h = let f : ⊥ = omega arith in absurd f
-lemma-pow-mod b (suc e) n h =
-    ap (λ x. x %ℤ b) (pow-suc b e ∙ lemma-mul-is-commutative b (pow b e)) ∙ lemma-mod-multiples-basic (pow b e) b n
+pub lemma-pow-mod : (b : ℤ) (e : ℕ) → 0 < e → pow b e %ℤ b ≡ pos 0
+lemma-pow-mod b zero h = let f : ⊥ = omega arith in absurd f
+lemma-pow-mod b (suc e) h =
+    ap (λ x. x %ℤ b) (pow-suc b e ∙ lemma-mul-is-commutative b (pow b e)) ∙ lemma-mod-multiples-basic (pow b e) b
 
 -- ((b % m)^e) % m == b^e % m
 pub lemma-pow-mod-noop : (b : ℤ) (e : ℕ) (m : ℤ) → pow (b %ℤ m) e %ℤ m ≡ pow b e %ℤ m

@@ -1,6 +1,8 @@
 -- Quotient and remainder of whole numbers of both signs: Euclid's, written /ℤ and %ℤ, and the truncating ones that Rust's operators give, `rust-div` and `rust-rem`.
 -- Upstream's `/` and `%` are Euclid's. By 0 the remainder is the dividend, and nothing is promised of the quotient.
 -- Assumes nothing.
+use mathlib.Core.Path.{_≡_}
+use mathlib.Core.Logic.{_↔_}
 use Prim.Native.Nat.{zero, suc, _/_}
 use lib.IntN.{ℤ, pos, negsuc, negℤ, natAbs, _-ℤ_, _*ℤ_}
 use lib.Signed.{_≤ℤ_, _<ℤ_}
@@ -26,6 +28,10 @@ negsuc a /ℤ negsuc d = pos (suc (a / suc d))
 -- what the quotient leaves
 unfoldable pub _%ℤ_ : ℤ → ℤ → ℤ
 x %ℤ d = x -ℤ d *ℤ (x /ℤ d)
+
+-- upstream: x % m == y % m <==> (x - y) % m == 0. It holds of every x, y and m (`Closed.mod-equivalent-always`)
+abbrev pub is-mod-equivalent : ℤ → ℤ → ℤ → Type 0
+is-mod-equivalent x y m = (x %ℤ m ≡ y %ℤ m) ↔ ((x -ℤ y) %ℤ m ≡ pos 0)
 
 -- upstream: if a == 0 { 0 } else if a > 0 { a / b } else { -((-a) / b) }
 unfoldable pub rust-div : ℤ → ℤ → ℤ
