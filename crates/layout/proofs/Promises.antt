@@ -44,8 +44,7 @@ changed-byte-noticed E b i y z h n =
     check-fault E (set b i y) (length-set b i y ∙ p .0) (check-wrong b y i (p .0) (p .1) h n)
 
 module _ (E : Edition) (b : List ℕ) where
-  -- ---- which refusal a block gets by itself, whatever lists there are; none exactly when it is laid out as E says is
-  -- `sound-exactly`
+  -- ---- which refusal a block gets by itself; that it gets none exactly when it is laid out so is `sound-exactly`
 
   -- 16 exactly when it isn't blockLength bytes
   pub fault-16-exactly : (faultAs E b ≡ 16) ↔ (length b ≡ blockLength → ⊥)

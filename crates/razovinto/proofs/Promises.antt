@@ -16,7 +16,7 @@ use Rattle.little.proofs.Little.{little-bytes}
 use Rattle.razovinto.specs.Entry.{resultBytes, returned, afterwards}
 use Rattle.razovinto.specs.Six.{Operation, sum, product, quotient, remainder, power, logarithm}
 use Rattle.razovinto.specs.Six.{answerOf, worthOf, DivisorZero, BaseBelowTwo, Allowed}
-use Rattle.razovinto.proofs.Slices.{short-returns, short-stays, roomy-returns}
+use Rattle.razovinto.proofs.Slices.{short-returns, short-stays}
 use Rattle.razovinto.proofs.Written.{returned-exactly, returned-19-exactly, stays, written, number-there}
 use Rattle.razovinto.proofs.Written.{mark-there, zeros-there, later-there}
 use Rattle.razovinto.proofs.Operations.{code-0-exactly, code-1-exactly, code-2-exactly, code-below-3}

@@ -74,8 +74,7 @@ module _ (run : List ℕ) where
             | overflowed-block z k j h e f q s ↦ absurd (n (sym (ap (λ s. s .code) (sym s ∙ r))))
           ]
 
-  -- 16, and then with position 0, exactly when the run is no multiple of 512 bytes: a block of a run that is one is
-  -- never refused with it
+  -- 16 exactly when the run is no multiple of 512 bytes: a block of a run that is one is never refused with it
   pub refused-16-exactly : (searchOf run .code ≡ 16) ↔ (Whole run → ⊥)
   refused-16-exactly = (only, λ n. ap (λ s. s .code) (at-partial run n))
     where
@@ -92,6 +91,7 @@ module _ (run : List ℕ) where
             | overflowed-block z p i h e f q s ↦ omega (arith, ap (λ s. s .code) s)
           ]
 
+  -- and then its position is 0
   pub refused-16-at-0 : (Whole run → ⊥) → searchOf run ≡ refused 16 0
   refused-16-at-0 = at-partial run
 

@@ -1,7 +1,7 @@
 -- What signed division promises, one named theorem for each promise, once for every width W. The functions' contracts
 -- say that their answers are those of `quotientOf` and `remainderOf`; `Unique` says that no other answer is.
 -- Assumes nothing.
-use mathlib.Core.Path.{_≡_, refl, ap, sym, _∙_, subst}
+use mathlib.Core.Path.{_≡_, ap, sym, _∙_, subst}
 use mathlib.Core.Logic.{_≢_, _↔_, _⊎_, inl, inr, ⊎-elim}
 use mathlib.Core.Bool.{true, false, true≢false}
 use Prim.Native.Nat.{ℕ, _-_, _^_}

@@ -1,6 +1,5 @@
 -- `power_fits` meets its contract. The constant that it hands to `fits_by` is the table.
 -- Assumes nothing.
-use mathlib.Core.Path.{refl}
 use borrow.Author.Needs.{needs}
 use Rattle.fit.specs.Fit.{largestBases}
 use Rattle.fit.proofs.Fits.{small-exponent, large-exponent}
