@@ -4,8 +4,10 @@ theorem is named on the pages that isn't there.
 
     check.py
 
-A function is written `crate::module::name`, a method `crate::Type::name`. Every must-fail edit of the crates
-must be named on the page too, and every edit that the page names must be there.
+A function is written `crate::module::name`, a method `crate::Type::name`. A program has no public function, since
+nothing outside it calls one: its functions are `pub(crate)` or private. A row says under 'unique by' why no other
+answer meets the contract. Every must-fail edit of the crates must be named on the page too, and every edit that the
+page names must be there.
 
 A theorem is named on README.md, docs/ENTRIES.md and docs/DECISIONS.md in backquotes, as lowercase words joined by
 dashes, `count-bounded`; or with its page before it, `Closed.log-equation`, as a name of one word always is. It must be
@@ -22,6 +24,7 @@ import sys
 TOP = os.path.dirname(os.path.dirname(os.path.dirname(os.path.abspath(__file__))))
 FUNCTION = re.compile(r'^(\s*)(?:#\[[^\]]*\]\s*)?pub (?:extern "C" )?fn ([A-Za-z_0-9]+)')
 METHODS_OF = re.compile(r"^impl ([A-Za-z_0-9]+) \{")
+OF_FUNCTION = re.compile(r"\| `[a-z_0-9]+::")
 NAMING = ("README.md", "docs/ENTRIES.md", "docs/DECISIONS.md")
 DASHED = r"[a-z0-9^]+(?:-[a-z0-9^]+)+"
 THEOREM = re.compile(rf"`({DASHED}|[A-Z][A-Za-z]*\.(?!antt`)[a-z0-9^-]+)`")
@@ -35,9 +38,17 @@ def read(*path):
         return f.read()
 
 
-def public_functions(path):
+def sources():
+    """The code of every crate: the crate, whether it is a program, the module and the text."""
+    for path in sorted(glob.glob(os.path.join(TOP, "crates", "*", "src", "**", "*.rt"), recursive=True)):
+        inside = os.path.relpath(path, os.path.join(TOP, "crates")).split(os.sep)
+        program = os.path.exists(os.path.join(TOP, "crates", inside[0], "src", "main.rt"))
+        yield inside[0], program, os.path.splitext("::".join(inside[2:]))[0], read(path)
+
+
+def public_functions(text):
     """The public functions of a file, each with the type it is a method of and the words of its contract."""
-    rows = read(path).split("\n")
+    rows = text.split("\n")
     owner = None
     for i, row in enumerate(rows):
         methods = METHODS_OF.match(row)
@@ -55,18 +66,17 @@ def public_functions(path):
             yield owner, function.group(2), set(re.findall(r"^\s*(requires|ensures)\b", "\n".join(head), re.M))
 
 
-def function_faults(named):
+def function_faults(files, named):
     """What is wrong with public functions, and how many there are."""
     faults, count = [], 0
-    for path in sorted(glob.glob(os.path.join(TOP, "crates", "*", "src", "**", "*.rt"), recursive=True)):
-        inside = os.path.relpath(path, os.path.join(TOP, "crates")).split(os.sep)
-        crate, module = inside[0], os.path.splitext("::".join(inside[2:]))[0]
-        if os.path.exists(os.path.join(TOP, "crates", crate, "src", "main.rt")):
-            continue  # a program's functions have no caller outside it
-        for owner, name, clauses in public_functions(path):
-            count += 1
+    for crate, program, module, text in files:
+        for owner, name, clauses in public_functions(text):
             middle = owner or (None if module == "lib" else module)
             full = "::".join(part for part in (crate, middle, name) if part)
+            if program:
+                faults.append(f"{full} is public in a program")
+                continue
+            count += 1
             if "requires" in clauses:
                 faults.append(f"{full} asks something of its caller")
             if "ensures" not in clauses:
@@ -74,6 +84,22 @@ def function_faults(named):
             if full not in named:
                 faults.append(f"{full} has no row in docs/ENTRIES.md")
     return faults, count
+
+
+def cells_of(row):
+    return [cell.strip() for cell in row.strip("|").split("|")]
+
+
+def row_faults(page):
+    """Which rows of functions don't say by what their answer is unique."""
+    faults, column = [], None
+    for number, row in enumerate(page.split("\n"), 1):
+        cells = cells_of(row)
+        if cells[0] == "function":
+            column = cells.index("unique by") if "unique by" in cells else None
+        elif OF_FUNCTION.match(row) and (column is None or not cells[column]):
+            faults.append(f"docs/ENTRIES.md, line {number}: {cells[0]} has no 'unique by'")
+    return faults
 
 
 def edit_faults(named):
@@ -127,6 +153,28 @@ def page_of(row):
     return "`{}.{}`".format(*ON_PAGE.search(row).groups()[1:])
 
 
+def row_tried(page):
+    """The check must see a row with nothing in that cell, and a table without the column."""
+    rows = page.split("\n")
+    head = next(row for row in rows if cells_of(row)[0] == "function")
+    first = next(row for row in rows if OF_FUNCTION.match(row))
+    cells = cells_of(first)
+    cells[cells_of(head).index("unique by")] = ""
+    emptied = page.replace(first, "| " + " | ".join(cells) + " |")
+    return bool(row_faults(emptied) and row_faults(page.replace("| unique by |", "| so |")))
+
+
+def program_tried(files, named):
+    """The check must see a public function in each program."""
+    programs = {crate for crate, program, _, _ in files if program}
+    for crate in programs:
+        own = [file for file in files if file[0] == crate]
+        opened = [(c, p, m, text.replace("pub(crate) fn", "pub fn", 1)) for c, p, m, text in own]
+        if function_faults(own, named)[0] or not function_faults(opened, named)[0]:
+            return False
+    return bool(programs)
+
+
 def tried(texts, pages):
     """The check must see a theorem that stands nowhere, on each page, and one that stands on another page."""
     for file, text in texts.items():
@@ -139,14 +187,20 @@ def tried(texts, pages):
 
 
 def main():
-    named = set(re.findall(r"`([^`\s]+)`", read("docs", "ENTRIES.md")))
-    faults, functions = function_faults(named)
+    page = read("docs", "ENTRIES.md")
+    named = set(re.findall(r"`([^`\s]+)`", page))
+    files = list(sources())
+    faults, functions = function_faults(files, named)
     more, edits = edit_faults(named)
     texts, pages = {file: read(file) for file in NAMING}, declarations()
     wrong, theorems = theorem_faults(texts, pages)
-    faults += more + wrong
+    faults += row_faults(page) + more + wrong
     if not faults and not tried(texts, pages):
         faults.append("tests/entries/check.py: a damaged page passes")
+    if not faults and not row_tried(page):
+        faults.append("tests/entries/check.py: a row without 'unique by' passes")
+    if not faults and not program_tried(files, named):
+        faults.append("tests/entries/check.py: a public function in a program passes")
     for fault in faults:
         print(f"entries: {fault}", file=sys.stderr)
     if faults:

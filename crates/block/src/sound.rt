@@ -16,8 +16,7 @@ ghost use lib.ListN.{length};
 ghost use Rattle.places.specs.Places.{every};
 ghost use Rattle.layout.specs.Editions.{blockLength, marksAt, one};
 ghost use Rattle.layout.specs.Layout.{placeWellMarked, hasLayoutAs};
-ghost use Rattle.layout.specs.Sound.{faultOf};
-ghost use Rattle.block.specs.Answers.{fault};
+ghost use Rattle.block.specs.Answers.{looked, soundOf};
 ghost use Rattle.block.specs.Marks.{marksFine, noMarks};
 
 // A mark of 0, or of 1 with the number 0, where the numbers begin at place `first`.
@@ -88,7 +87,7 @@ fn has_layout_one(b: &[u8]) -> bool
 
 // Sound, or 16, 17 or 18.
 pub fn sound(block: &[u8]) -> Sound
-    ensures { λ r. ⌜ fault r ≡ faultOf (now (block .entry)) ⌝ }
+    ensures { λ r. ⌜ looked r ≡ soundOf (now (block .entry)) ⌝ }
 {
     if block.len() != BLOCK_LENGTH {
         return Sound::Refused(Refusal::BlockLength);

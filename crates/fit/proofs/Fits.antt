@@ -1,6 +1,7 @@
--- When a power fits 64 bits: the small and the large exponents, and those of a table whose every entry is the largest base that fits.
+-- When a power fits 64 bits: the small and the large exponents, and those of the table, whose every entry is the
+-- largest base that fits.
 -- Assumes nothing.
-use mathlib.Core.Path.{_≡_, ap, sym, _∙_, subst}
+use mathlib.Core.Path.{_≡_, refl, ap, sym, _∙_, subst}
 use mathlib.Core.Bool.{true, false}
 use mathlib.Core.List.{List}
 use Prim.Native.Nat.{ℕ, zero, suc, _+_, _-_, _*_, _^_, _≤_, _<_}
@@ -11,7 +12,7 @@ use borrow.Author.Tests.{le-leb, lt-leb, lt-ltb, le-ltb}
 use lib.Dec.{T, leb, ltb, leb→le, ltb→lt}
 use lib.ListN.{length, getD}
 use Rattle.checked.specs.Value.{limitOf}
-use Rattle.fit.specs.Fit.{powerFits, largest, every}
+use Rattle.fit.specs.Fit.{powerFits, largest, every, largestBases, entryFor}
 use Rattle.fit.proofs.Table.{each, left, right}
 
 fits : (b e : ℕ) → b ^ e ≤ limitOf 64 → powerFits b e ≡ true
@@ -67,6 +68,34 @@ entry-decides b e t h =
           lt-leb b t k ∙ sym (exceeds b e (lt-of-lt-of-le (ltb→lt _ _ (right (leb (t ^ e) (limitOf 64)) (ltb (limitOf 64) (suc t ^ e)) h)) (pow-le-pow-left k e)))
     ]
 
--- a table from the exponent 2 on, whose rule is computed over the whole of it, decides every base at every exponent that it has
-pub by-table : (xs : List ℕ) (b e : ℕ) → T (every largest 2 xs) → 1 < e → e - 2 < length xs → leb b (getD xs (e - 2) 0) ≡ powerFits b e
-by-table xs b e t h k = subst (λ n. leb b (getD xs (e - 2) 0) ≡ powerFits b n) (omega arith) (entry-decides b (2 + (e - 2)) (getD xs (e - 2) 0) (each largest xs 2 t (e - 2) k))
+-- the rule, computed once over the whole table
+pub rule-computed : every largest 2 largestBases ≡ true
+unfolding largestBases
+rule-computed = refl
+
+pub table-length : length largestBases ≡ 62
+unfolding largestBases
+table-length = refl
+
+-- carried to each entry
+rule-at : (e : ℕ) → 1 < e → e < 64 → T (largest e (entryFor e))
+rule-at e h k =
+    let same : 2 + (e - 2) ≡ e = omega arith in
+    let there : e - 2 < length largestBases = omega (arith, table-length) in
+    subst (λ n. T (largest n (entryFor e))) same
+    (each largest largestBases 2 (subst T (sym rule-computed) tt) (e - 2) there)
+
+pub entry-fits : (e : ℕ) → 1 < e → e < 64 → entryFor e ^ e ≤ limitOf 64
+entry-fits e h k = leb→le _ _ (left (leb (entryFor e ^ e) (limitOf 64)) _ (rule-at e h k))
+
+pub next-exceeds : (e : ℕ) → 1 < e → e < 64 → limitOf 64 < suc (entryFor e) ^ e
+next-exceeds e h k =
+    ltb→lt _ _ (right (leb (entryFor e ^ e) (limitOf 64)) (ltb (limitOf 64) (suc (entryFor e) ^ e)) (rule-at e h k))
+
+-- so it decides every base
+pub by-entry : (b e : ℕ) → 1 < e → e < 64 → leb b (entryFor e) ≡ powerFits b e
+by-entry b e h k = entry-decides b e (entryFor e) (rule-at e h k)
+
+pub by-table
+    : (xs : List ℕ) (b e : ℕ) → xs ≡ largestBases → 1 < e → e < 64 → leb b (getD xs (e - 2) 0) ≡ powerFits b e
+by-table xs b e same h k = ap (λ ys. leb b (getD ys (e - 2) 0)) same ∙ by-entry b e h k

@@ -1,9 +1,7 @@
 // Whether a power fits 64 bits, from a table and without working the power out.
 ghost use mathlib.Core.Path.{_≡_};
 ghost use Prim.Native.Nat.{_<_};
-ghost use lib.Dec.{T};
-ghost use lib.ListN.{length};
-ghost use Rattle.fit.specs.Fit.{powerFits, largest, every};
+ghost use Rattle.fit.specs.Fit.{powerFits, largestBases};
 
 // The largest base whose power fits 64 bits, for each exponent from 2 to 63.
 const LARGEST_BASES: [u64; 62] = [
@@ -84,9 +82,9 @@ pub fn power_fits(base: u64, exponent: u64) -> bool
     fits_by(&LARGEST_BASES, base, exponent)
 }
 
-// By a table that has the largest base for each exponent from 2 on.
+// By the table, which has the largest base for each exponent from 2 on.
 fn fits_by(bases: &[u64; 62], base: u64, exponent: u64) -> bool
-    requires { ⌜ (length (now bases) ≡ 62) × T (every largest 2 (now bases)) ⌝ }
+    requires { ⌜ now bases ≡ largestBases ⌝ }
     requires { ⌜ (1 < exponent) × (exponent < 64) ⌝ }
     ensures { λ r. ⌜ r ≡ powerFits base exponent ⌝ }
 {

@@ -43,6 +43,79 @@ changed-byte-noticed E b i y z h n =
     let p = sound-parts E b z in
     check-fault E (set b i y) (length-set b i y ∙ p .0) (check-wrong b y i (p .0) (p .1) h n)
 
+module _ (E : Edition) (b : List ℕ) where
+  -- ---- which refusal a block gets by itself; that it gets none exactly when it is laid out so is `sound-exactly`
+
+  -- 16 exactly when it isn't blockLength bytes
+  pub fault-16-exactly : (faultAs E b ≡ 16) ↔ (length b ≡ blockLength → ⊥)
+  fault-16-exactly = (only, length-fault E b)
+    where
+      only : faultAs E b ≡ 16 → length b ≡ blockLength → ⊥
+      only e l =
+          elim (stage E b) [
+            | other-length n f ↦ n l
+            | wrong-check m n f ↦ omega arith
+            | other-layout m c h f ↦ omega arith
+            | sound m c h f ↦ omega arith
+          ]
+
+  -- 17 exactly when it is, and the check is wrong
+  pub fault-17-exactly : (faultAs E b ≡ 17) ↔ ((length b ≡ blockLength) × (check b ≡ checkSum b → ⊥))
+  fault-17-exactly = (only, λ p. check-fault E b (p .0) (p .1))
+    where
+      only : faultAs E b ≡ 17 → (length b ≡ blockLength) × (check b ≡ checkSum b → ⊥)
+      only e =
+          elim (stage E b) [
+            | other-length n f ↦ absurd (omega arith)
+            | wrong-check l n f ↦ (l, n)
+            | other-layout l c h f ↦ absurd (omega arith)
+            | sound l c h f ↦ absurd (omega arith)
+          ]
+
+  -- 18 exactly when the check is right, and the layout is another
+  pub fault-18-exactly
+      : (faultAs E b ≡ 18) ↔ ((length b ≡ blockLength) × (check b ≡ checkSum b) × (hasLayoutAs E b ≡ false))
+  fault-18-exactly = (only, λ p. layout-fault E b (p .0) (p .1) (p .2))
+    where
+      only : faultAs E b ≡ 18 → (length b ≡ blockLength) × (check b ≡ checkSum b) × (hasLayoutAs E b ≡ false)
+      only e =
+          elim (stage E b) [
+            | other-length n f ↦ absurd (omega arith)
+            | wrong-check l n f ↦ absurd (omega arith)
+            | other-layout l c h f ↦ (l, c, h)
+            | sound l c h f ↦ absurd (omega arith)
+          ]
+
+  -- in propositions: what `Told` says of a block isn't all so, though its length and its check are right
+  pub fault-18-told
+      : (faultAs E b ≡ 18) ↔ ((length b ≡ blockLength) × (check b ≡ checkSum b) × (LaidOutAs E b → ⊥))
+  fault-18-told = (only, back)
+    where
+      only : faultAs E b ≡ 18 → (length b ≡ blockLength) × (check b ≡ checkSum b) × (LaidOutAs E b → ⊥)
+      only e =
+          let p = fault-18-exactly .0 e in
+          (p .0, p .1, λ l. false≢true (sym (p .2) ∙ sound-parts E b (sound-exactly E b .1 l) .2))
+
+      back : (length b ≡ blockLength) × (check b ≡ checkSum b) × (LaidOutAs E b → ⊥) → faultAs E b ≡ 18
+      back p =
+          elim (stage E b) [
+            | other-length n f ↦ absurd (n (p .0))
+            | wrong-check l n f ↦ absurd (n (p .1))
+            | other-layout l c h f ↦ f
+            | sound l c h f ↦ absurd (p .2 (sound-exactly E b .0 f))
+          ]
+
+  -- no other refusal is given
+  pub fault-only-codes
+      : (faultAs E b ≡ 0) ⊎ ((faultAs E b ≡ 16) ⊎ ((faultAs E b ≡ 17) ⊎ (faultAs E b ≡ 18)))
+  fault-only-codes =
+      elim (stage E b) [
+        | other-length n f ↦ inr (inl f)
+        | wrong-check l n f ↦ inr (inr (inl f))
+        | other-layout l c h f ↦ inr (inr (inr f))
+        | sound l c h f ↦ inl f
+      ]
+
 module _ (E : Edition) (b numbers marks : List ℕ) where
   -- ---- which blocks are accepted, and which refusal the others get
 
@@ -75,32 +148,16 @@ module _ (E : Edition) (b numbers marks : List ℕ) where
   pub refused-16-exactly : (readFaultAs E b numbers marks ≡ 16) ↔ (length b ≡ blockLength → ⊥)
   refused-16-exactly =
       let f = faults-exactly 16 (λ z. omega arith) (λ z. omega arith) in
-      (λ e. only (f .0 e), λ n. f .1 (length-fault E b n))
-    where
-      only : faultAs E b ≡ 16 → length b ≡ blockLength → ⊥
-      only e l =
-          elim (stage E b) [
-            | other-length n f ↦ n l
-            | wrong-check m n f ↦ omega arith
-            | other-layout m c h f ↦ omega arith
-            | sound m c h f ↦ omega arith
-          ]
+      let g = fault-16-exactly E b in
+      (λ e. g .0 (f .0 e), λ n. f .1 (g .1 n))
 
   -- 17 exactly when it is, and the check is wrong
   pub refused-17-exactly
       : (readFaultAs E b numbers marks ≡ 17) ↔ ((length b ≡ blockLength) × (check b ≡ checkSum b → ⊥))
   refused-17-exactly =
       let f = faults-exactly 17 (λ z. omega arith) (λ z. omega arith) in
-      (λ e. only (f .0 e), λ p. f .1 (check-fault E b (p .0) (p .1)))
-    where
-      only : faultAs E b ≡ 17 → (length b ≡ blockLength) × (check b ≡ checkSum b → ⊥)
-      only e =
-          elim (stage E b) [
-            | other-length n f ↦ absurd (omega arith)
-            | wrong-check l n f ↦ (l, n)
-            | other-layout l c h f ↦ absurd (omega arith)
-            | sound l c h f ↦ absurd (omega arith)
-          ]
+      let g = fault-17-exactly E b in
+      (λ e. g .0 (f .0 e), λ p. f .1 (g .1 p))
 
   -- 18 exactly when the check is right, and the layout is another
   pub refused-18-exactly
@@ -108,39 +165,16 @@ module _ (E : Edition) (b numbers marks : List ℕ) where
       ↔ ((length b ≡ blockLength) × (check b ≡ checkSum b) × (hasLayoutAs E b ≡ false))
   refused-18-exactly =
       let f = faults-exactly 18 (λ z. omega arith) (λ z. omega arith) in
-      (λ e. only (f .0 e), λ p. f .1 (layout-fault E b (p .0) (p .1) (p .2)))
-    where
-      only : faultAs E b ≡ 18 → (length b ≡ blockLength) × (check b ≡ checkSum b) × (hasLayoutAs E b ≡ false)
-      only e =
-          elim (stage E b) [
-            | other-length n f ↦ absurd (omega arith)
-            | wrong-check l n f ↦ absurd (omega arith)
-            | other-layout l c h f ↦ (l, c, h)
-            | sound l c h f ↦ absurd (omega arith)
-          ]
+      let g = fault-18-exactly E b in
+      (λ e. g .0 (f .0 e), λ p. f .1 (g .1 p))
 
   -- in propositions: what `Told` says of a block isn't all so, though its length and its check are right
   pub refused-18-told
       : (readFaultAs E b numbers marks ≡ 18) ↔ ((length b ≡ blockLength) × (check b ≡ checkSum b) × (LaidOutAs E b → ⊥))
-  refused-18-told = (only, back)
-    where
-      only
-          : readFaultAs E b numbers marks ≡ 18 →
-          (length b ≡ blockLength) × (check b ≡ checkSum b) × (LaidOutAs E b → ⊥)
-      only e =
-          let p = refused-18-exactly .0 e in
-          (p .0, p .1, λ l. false≢true (sym (p .2) ∙ sound-parts E b (sound-exactly E b .1 l) .2))
-
-      back
-          : (length b ≡ blockLength) × (check b ≡ checkSum b) × (LaidOutAs E b → ⊥) →
-          readFaultAs E b numbers marks ≡ 18
-      back p =
-          elim (stage E b) [
-            | other-length n f ↦ absurd (n (p .0))
-            | wrong-check l n f ↦ absurd (n (p .1))
-            | other-layout l c h f ↦ refused-18-exactly .1 (l, c, h)
-            | sound l c h f ↦ absurd (p .2 (sound-exactly E b .0 f))
-          ]
+  refused-18-told =
+      let f = faults-exactly 18 (λ z. omega arith) (λ z. omega arith) in
+      let g = fault-18-told E b in
+      (λ e. g .0 (f .0 e), λ p. f .1 (g .1 p))
 
   -- 19 exactly when the block is sound, and one of the lists has no room for what would be written
   pub refused-19-exactly

@@ -1,4 +1,5 @@
--- What is returned and what the slice has afterwards: where it is too short, where the answer is a refusal, and where it is a value.
+-- What is returned and what the slice has afterwards, of any answer p: where it is too short, where the answer is a
+-- refusal, and where it is a value.
 -- Assumes nothing.
 use mathlib.Core.Path.{_≡_, sym, ap, _∙_}
 use mathlib.Core.Bool.{false, cond}

@@ -1,2 +1,3 @@
--- The definitions of this crate: what an entry returns and what it writes.
+-- The definitions of this crate: what an entry returns and what it writes, and the six operations.
 pub mod Entry
+pub mod Six

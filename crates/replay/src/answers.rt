@@ -2,40 +2,40 @@
 use checked::refusal::Refusal;
 use checked::types::Checked64;
 
-pub fn wide8(n: u8) -> u64 {
+pub(crate) fn wide8(n: u8) -> u64 {
     n as u64
 }
 
-pub fn wide32(n: u32) -> u64 {
+pub(crate) fn wide32(n: u32) -> u64 {
     n as u64
 }
 
-pub fn code_of(refusal: Refusal) -> u64 {
+pub(crate) fn code_of(refusal: Refusal) -> u64 {
     wide32(refusal.number())
 }
 
-pub fn mark_of(value: Checked64) -> u64 {
+pub(crate) fn mark_of(value: Checked64) -> u64 {
     match value {
         Checked64::Fits(_) => 0,
         Checked64::Overflowed => 1,
     }
 }
 
-pub fn number_of(value: Checked64) -> u64 {
+pub(crate) fn number_of(value: Checked64) -> u64 {
     match value {
         Checked64::Fits(n) => n,
         Checked64::Overflowed => 0,
     }
 }
 
-pub fn fitting(n: u64) -> [u64; 4] {
+pub(crate) fn fitting(n: u64) -> [u64; 4] {
     [0, 0, 0, n]
 }
 
-pub fn overflowed() -> [u64; 4] {
+pub(crate) fn overflowed() -> [u64; 4] {
     [0, 0, 1, 0]
 }
 
-pub fn refused(refusal: Refusal, place: u64) -> [u64; 4] {
+pub(crate) fn refused(refusal: Refusal, place: u64) -> [u64; 4] {
     [code_of(refusal), place, 0, 0]
 }

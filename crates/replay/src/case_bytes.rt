@@ -2,19 +2,19 @@
 ghost use Prim.Native.Nat.{_+_, _*_, _≤_};
 ghost use lib.ListN.{length};
 
-pub fn half(bytes: &[u8], at: usize) -> u16
+pub(crate) fn half(bytes: &[u8], at: usize) -> u16
     requires { ⌜ at + 2 ≤ length (now bytes) ⌝ }
 {
     little::bytes::half(bytes[at], bytes[at + 1])
 }
 
-pub fn word(bytes: &[u8], at: usize) -> u32
+pub(crate) fn word(bytes: &[u8], at: usize) -> u32
     requires { ⌜ at + 4 ≤ length (now bytes) ⌝ }
 {
     little::bytes::word(bytes[at], bytes[at + 1], bytes[at + 2], bytes[at + 3])
 }
 
-pub fn long(bytes: &[u8], at: usize) -> u64
+pub(crate) fn long(bytes: &[u8], at: usize) -> u64
     requires { ⌜ at + 8 ≤ length (now bytes) ⌝ }
 {
     let eight = &bytes[at..];
@@ -31,7 +31,7 @@ pub fn long(bytes: &[u8], at: usize) -> u64
 }
 
 // As many numbers of eight bytes as the lent list takes.
-pub fn longs(bytes: &[u8], from: usize, numbers: &mut [u64])
+pub(crate) fn longs(bytes: &[u8], from: usize, numbers: &mut [u64])
     requires { ⌜ from + 8 * length (now numbers) ≤ length (now bytes) ⌝ }
 {
     let mut i = 0;

@@ -162,7 +162,7 @@ fn divided(width: u8, which: u8, a: i64, b: i64) -> [u64; 4] {
 }
 
 // b width, b which (0 quotient, 1 remainder), q a, q b in two's complement.
-pub fn replay(bytes: &[u8], out: &mut [u8], at: usize) -> Case {
+pub(crate) fn replay(bytes: &[u8], out: &mut [u8], at: usize) -> Case {
     if bytes.len() < 19 {
         return Case::Malformed(Fault::CutShort);
     }

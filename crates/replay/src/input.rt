@@ -58,7 +58,7 @@ fn move_to_front(input: &mut [u8], start: usize, end: usize)
 }
 
 // A window that holds the longest case, or all that is left of the input.
-pub fn fill(input: &mut [u8], window: Window) -> Window {
+pub(crate) fn fill(input: &mut [u8], window: Window) -> Window {
     let start = window.start;
     let end = window.end;
     if !window.is_open {

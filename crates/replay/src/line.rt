@@ -6,7 +6,7 @@ use lines::put;
 const ROOM: usize = 21;
 
 // Writes out what waits, and gives the place to go on from.
-pub fn flush(out: &[u8], at: usize) -> usize {
+pub(crate) fn flush(out: &[u8], at: usize) -> usize {
     if out.len() < at {
         return at;
     }
@@ -33,14 +33,14 @@ fn first(out: &mut [u8], at: usize, n: u64) -> usize {
 }
 
 // A further number, after a space.
-pub fn next(out: &mut [u8], at: usize, n: u64) -> usize {
+pub(crate) fn next(out: &mut [u8], at: usize, n: u64) -> usize {
     let at = make_room(out, at);
     let at = put::word(out, at, b" ");
     put::number(out, at, n)
 }
 
 // Further numbers.
-pub fn further(out: &mut [u8], at: usize, numbers: &[u64]) -> usize {
+pub(crate) fn further(out: &mut [u8], at: usize, numbers: &[u64]) -> usize {
     let mut after = at;
     let mut i = 0;
     while i < numbers.len() {
@@ -51,7 +51,7 @@ pub fn further(out: &mut [u8], at: usize, numbers: &[u64]) -> usize {
 }
 
 // A line's first numbers.
-pub fn start(out: &mut [u8], at: usize, numbers: &[u64]) -> usize {
+pub(crate) fn start(out: &mut [u8], at: usize, numbers: &[u64]) -> usize {
     if numbers.len() == 0 {
         return at;
     }
@@ -60,19 +60,19 @@ pub fn start(out: &mut [u8], at: usize, numbers: &[u64]) -> usize {
 }
 
 // A line's end.
-pub fn end(out: &mut [u8], at: usize) -> usize {
+pub(crate) fn end(out: &mut [u8], at: usize) -> usize {
     let at = make_room(out, at);
     put::word(out, at, b"\n")
 }
 
 // A whole line.
-pub fn whole(out: &mut [u8], at: usize, numbers: &[u64]) -> usize {
+pub(crate) fn whole(out: &mut [u8], at: usize, numbers: &[u64]) -> usize {
     let at = start(out, at, numbers);
     end(out, at)
 }
 
 // The line of a malformed case.
-pub fn malformed(out: &mut [u8], at: usize) -> usize {
+pub(crate) fn malformed(out: &mut [u8], at: usize) -> usize {
     let at = make_room(out, at);
     put::word(out, at, b"malformed\n")
 }

@@ -156,7 +156,7 @@ fn is_kind(kind: u8) -> bool {
 }
 
 // b width, b kind, b left's mark, q left, b right's mark, q right.
-pub fn replay(bytes: &[u8], out: &mut [u8], at: usize) -> Case {
+pub(crate) fn replay(bytes: &[u8], out: &mut [u8], at: usize) -> Case {
     if bytes.len() < 21 {
         return Case::Malformed(Fault::CutShort);
     }

@@ -48,7 +48,7 @@ fn plain(width: u8, mark: u8, number: u64) -> [u64; 3] {
 }
 
 // b width, b mark, q number.
-pub fn replay(bytes: &[u8], out: &mut [u8], at: usize) -> Case {
+pub(crate) fn replay(bytes: &[u8], out: &mut [u8], at: usize) -> Case {
     if bytes.len() < 11 {
         return Case::Malformed(Fault::CutShort);
     }

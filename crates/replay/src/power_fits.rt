@@ -5,7 +5,7 @@ use crate::types::Case;
 use crate::types::Fault;
 
 // q base, q exponent.
-pub fn replay(bytes: &[u8], out: &mut [u8], at: usize) -> Case {
+pub(crate) fn replay(bytes: &[u8], out: &mut [u8], at: usize) -> Case {
     if bytes.len() < 17 {
         return Case::Malformed(Fault::CutShort);
     }

@@ -64,7 +64,7 @@ fn put_reading(
 }
 
 // h n, h k, h j, n bytes of the block; the lent lists have k and j elements.
-pub fn replay(
+pub(crate) fn replay(
     bytes: &[u8],
     numbers: &mut [u64],
     marks: &mut [u8],

@@ -77,7 +77,7 @@ fn put_run(out: &mut [u8], at: usize, run: Run) -> usize {
 }
 
 // b width, q allowance, h n, h k, n bytes of kinds, k × q of numbers.
-pub fn replay(bytes: &[u8], numbers: &mut [u64], out: &mut [u8], at: usize) -> Case {
+pub(crate) fn replay(bytes: &[u8], numbers: &mut [u64], out: &mut [u8], at: usize) -> Case {
     if bytes.len() < 14 {
         return Case::Malformed(Fault::CutShort);
     }

@@ -20,7 +20,7 @@ fn shown(answer: Scan) -> [u64; 5] {
 }
 
 // h n, h k, n × q of numbers, k marks.
-pub fn replay(bytes: &[u8], numbers: &mut [u64], out: &mut [u8], at: usize) -> Case {
+pub(crate) fn replay(bytes: &[u8], numbers: &mut [u64], out: &mut [u8], at: usize) -> Case {
     if bytes.len() < 5 {
         return Case::Malformed(Fault::CutShort);
     }

@@ -17,7 +17,7 @@ fn shown(answer: Found) -> [u64; 5] {
 }
 
 // w n, n bytes.
-pub fn replay(bytes: &[u8], out: &mut [u8], at: usize) -> Case {
+pub(crate) fn replay(bytes: &[u8], out: &mut [u8], at: usize) -> Case {
     if bytes.len() < 5 {
         return Case::Malformed(Fault::CutShort);
     }

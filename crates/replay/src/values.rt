@@ -8,7 +8,7 @@ use shape::types::Limit;
 use shape::width::limit_of;
 
 // Whether a value stands for itself at the width: a number that fits it, or overflowed with the number 0.
-pub fn is_allowed(width: u8, mark: u8, number: u64) -> bool {
+pub(crate) fn is_allowed(width: u8, mark: u8, number: u64) -> bool {
     match limit_of(width as u64) {
         Limit::Largest(limit) => match mark {
             0 => number <= limit,
@@ -19,7 +19,7 @@ pub fn is_allowed(width: u8, mark: u8, number: u64) -> bool {
     }
 }
 
-pub fn checked8(mark: u8, number: u64) -> Checked8 {
+pub(crate) fn checked8(mark: u8, number: u64) -> Checked8 {
     if mark != 0 {
         return Checked8::new_overflowed();
     }
@@ -29,7 +29,7 @@ pub fn checked8(mark: u8, number: u64) -> Checked8 {
     Checked8::new(number as u8)
 }
 
-pub fn checked16(mark: u8, number: u64) -> Checked16 {
+pub(crate) fn checked16(mark: u8, number: u64) -> Checked16 {
     if mark != 0 {
         return Checked16::new_overflowed();
     }
@@ -39,7 +39,7 @@ pub fn checked16(mark: u8, number: u64) -> Checked16 {
     Checked16::new(number as u16)
 }
 
-pub fn checked32(mark: u8, number: u64) -> Checked32 {
+pub(crate) fn checked32(mark: u8, number: u64) -> Checked32 {
     if mark != 0 {
         return Checked32::new_overflowed();
     }
@@ -49,7 +49,7 @@ pub fn checked32(mark: u8, number: u64) -> Checked32 {
     Checked32::new(number as u32)
 }
 
-pub fn checked64(mark: u8, number: u64) -> Checked64 {
+pub(crate) fn checked64(mark: u8, number: u64) -> Checked64 {
     if mark != 0 {
         return Checked64::new_overflowed();
     }

@@ -4,9 +4,14 @@
 use mathlib.Core.Path.{_≡_, refl, ap, sym, _∙_, subst}
 use mathlib.Core.Logic.{_↔_, _⊎_, inl, inr, ⊎-elim}
 use mathlib.Core.List.{List, []}
-use Prim.Native.Nat.{ℕ, _<_}
+use Prim.Native.Nat.{ℕ, _*_, _<_}
 use native.Mathlib.Omega.{arith}
-use Rattle.layout.specs.Runs.{blocks, Whole}
+use lib.ListN.{length}
+use Rattle.layout.specs.Editions.{blockLength}
+use Rattle.layout.specs.Layout.{editionOf}
+use Rattle.layout.specs.Runs.{blocks, blockAt, Whole}
+use Rattle.layout.proofs.Promises.{fault-16-exactly, fault-only-codes}
+use Rattle.layout.proofs.Runs.{block-length}
 use Rattle.search.specs.Search.{refused, none, foundAt, QuietBefore, searchOf, BadBlock, OverflowedBlock}
 use Rattle.search.proofs.Stages.{at-partial, at-bad, at-overflowed, at-none, partial, all-quiet, bad-block}
 use Rattle.search.proofs.Stages.{overflowed-block, stage}
@@ -68,6 +73,43 @@ module _ (run : List ℕ) where
                 inr (z, subst (BadBlock run c) (ap (λ s. s .place) (sym s ∙ r)) (h, e, q))
             | overflowed-block z k j h e f q s ↦ absurd (n (sym (ap (λ s. s .code) (sym s ∙ r))))
           ]
+
+  -- 16 exactly when the run is no multiple of 512 bytes: a block of a run that is one is never refused with it
+  pub refused-16-exactly : (searchOf run .code ≡ 16) ↔ (Whole run → ⊥)
+  refused-16-exactly = (only, λ n. ap (λ s. s .code) (at-partial run n))
+    where
+      only : searchOf run .code ≡ 16 → Whole run → ⊥
+      only r w =
+          elim (stage run) [
+            | partial n s ↦ n w
+            | all-quiet z q s ↦ omega (arith, ap (λ s. s .code) s)
+            | bad-block z p h n q s ↦
+                let b = blockAt run p in
+                let all : length run ≡ blockLength * blocks run = omega arith in
+                fault-16-exactly (editionOf b) b .0 (sym (ap (λ s. s .code) s) ∙ r)
+                (block-length run (blocks run) all p h)
+            | overflowed-block z p i h e f q s ↦ omega (arith, ap (λ s. s .code) s)
+          ]
+
+  -- and then its position is 0
+  pub refused-16-at-0 : (Whole run → ⊥) → searchOf run ≡ refused 16 0
+  refused-16-at-0 = at-partial run
+
+  -- no other number than 0, 16, 17 and 18 is given
+  pub only-codes
+      : (searchOf run .code ≡ 0)
+      ⊎ ((searchOf run .code ≡ 16) ⊎ ((searchOf run .code ≡ 17) ⊎ (searchOf run .code ≡ 18)))
+  only-codes =
+      elim (stage run) [
+        | partial n s ↦ inr (inl (ap (λ s. s .code) s))
+        | all-quiet z q s ↦ inl (ap (λ s. s .code) s)
+        | bad-block z p h n q s ↦
+            let b = blockAt run p in
+            subst
+            (λ c. (c ≡ 0) ⊎ ((c ≡ 16) ⊎ ((c ≡ 17) ⊎ (c ≡ 18))))
+            (sym (ap (λ s. s .code) s)) (fault-only-codes (editionOf b) b)
+        | overflowed-block z p i h e f q s ↦ inl (ap (λ s. s .code) s)
+      ]
 
 -- an empty run has none
 pub empty-run-none : searchOf [] ≡ none

@@ -1,13 +1,13 @@
--- Signed division, once for every width w: what a test of the bits says of the number, that the machine's quotient fits, and that the machine's
--- quotient and remainder are `rust-div` and `rust-rem`.
+-- Signed division, once for every width w: what a test of the bits says of the number, that the machine's quotient
+-- fits, and that the machine's quotient and remainder are `rust-div` and `rust-rem`.
 -- Assumes nothing.
 use mathlib.Core.Path.{_≡_, refl, ap, ap₂, sym, _∙_, subst}
 use mathlib.Core.Logic.{_≢_, _⊎_, inl, inr, ⊎-elim}
 use mathlib.Core.Bool.{Bool, true, false, cond}
 use Prim.Native.Nat.{ℕ, zero, suc, _+_, _-_, _/_, _^_, _≤_, _<_}
-use native.Mathlib.Nat.{div-le-self, div-lt-self, div-one, mod-one, lt-of-le-of-lt}
+use native.Mathlib.Nat.{div-le-self, div-lt-self, div-one, mod-one, le-refl, lt-of-le-of-lt}
 use native.Mathlib.Omega.{arith}
-use borrow.Author.Tests.{lt-ltb, le-ltb}
+use borrow.Author.Tests.{ltb-true, lt-ltb, le-ltb}
 use lib.Pow.{pow-pos}
 use lib.IntN.{ℤ, pos, negsuc, negℤ}
 use lib.Signed.{mag, quotZ, remZ, mag-rem}
@@ -80,7 +80,7 @@ quotient-fits H (negsuc a) (negsuc (suc b)) h o = omega (arith, div-lt-self {n =
 
 -- ---- the machine's division is the definition's
 
-zero-or-not : (b : ℤ) → b ≢ pos 0 → isZero b ≡ false
+pub zero-or-not : (b : ℤ) → b ≢ pos 0 → isZero b ≡ false
 zero-or-not (pos zero) n = absurd (n refl)
 zero-or-not (pos (suc m)) n = refl
 zero-or-not (negsuc m) n = refl
@@ -93,21 +93,32 @@ pub remainder-by-zero : (w : Width) (a b : ℤ) → SFits w b → ofZ w b ≡ 0 
 unfolding remainderOf
 remainder-by-zero w a b f e = sym (ap (remainderOf a) (bits-of-zero w b f e))
 
-by-tests : (W : ℕ) (a b : ℤ) (t : Bool) → isZero b ≡ false → inRange W (rust-div a b) ≡ t → quotientOf W a b ≡ cond t (number (rust-div a b)) (refused 4)
+pub by-tests
+    : (W : ℕ) (a b : ℤ) (t : Bool) → isZero b ≡ false → inRange W (rust-div a b) ≡ t →
+    quotientOf W a b ≡ cond t (number (rust-div a b)) (refused 4)
 unfolding quotientOf
 by-tests W a b t z r = ap₂ (λ x y. cond x (refused 1) (cond y (number (rust-div a b)) (refused 4))) z r
 
 -- the quotient's range, as the definition tests it
-pub quotient-in-range : (w : Width) (a b : ℤ) → SFits w a → (b ≢ negsuc 0) ⊎ (a ≢ smallest (bits w)) → inRange (bits w) (rust-div a b) ≡ true
-quotient-in-range w a b fa o =
-    ap (inRange (bits w)) (rust-div-is a b)
-    ∙ lt-ltb (mag (quotZ a b)) (2 ^ (bits w - 1)) (subst (λ k. mag (quotZ a b) < 2 ^ k) (half w) (quotient-fits (2 ^ hbits w) a b (fa .sfits) (subst (λ z. (b ≢ negsuc 0) ⊎ (a ≢ z)) (sym (lowest-is w)) o)))
+pub quotient-in-range
+    : (W : ℕ) (a b : ℤ) → inRange W a ≡ true → (b ≢ negsuc 0) ⊎ (a ≢ smallest W) → inRange W (rust-div a b) ≡ true
+quotient-in-range W a b f o =
+    let H = 2 ^ (W - 1) in
+    ap (inRange W) (rust-div-is a b) ∙ lt-ltb (mag (quotZ a b)) H (quotient-fits H a b (ltb-true (mag a) H f) o)
 
-pub quotient-out-of-range : (w : Width) (a b : ℤ) → a ≡ smallest (bits w) → b ≡ negsuc 0 → inRange (bits w) (rust-div a b) ≡ false
-quotient-out-of-range w a b ea eb =
-    let H = 2 ^ hbits w in
-    ap (inRange (bits w)) (ap₂ rust-div (ea ∙ sym (lowest-is w)) eb ∙ rust-div-is (lowest w) (negsuc 0) ∙ ap pos (omega (arith, div-one (suc (H - 1)), pow-pos (hbits w))))
-    ∙ le-ltb H (2 ^ (bits w - 1)) (omega (arith, ap (λ k. 2 ^ k) (half w)))
+pub quotient-out-of-range
+    : (W : ℕ) (a b : ℤ) → a ≡ smallest W → b ≡ negsuc 0 → inRange W (rust-div a b) ≡ false
+quotient-out-of-range W a b ea eb =
+    let H = 2 ^ (W - 1) in
+    ap (inRange W)
+    (ap₂ rust-div ea eb
+    ∙ rust-div-is (smallest W) (negsuc 0)
+    ∙ ap pos (omega (arith, div-one (suc (H - 1)), pow-pos (W - 1))))
+    ∙ le-ltb H H (le-refl H)
+
+-- a number of the width w is in its range
+pub fits-range : (w : Width) (a : ℤ) → SFits w a → inRange (bits w) a ≡ true
+fits-range w a f = lt-ltb (mag a) (2 ^ (bits w - 1)) (subst (λ k. mag a < 2 ^ k) (half w) (f .sfits))
 
 module _ (w : Width) (a b : ℤ) where
   -- the smallest number by -1 is refused: the quotient is one too large
@@ -115,7 +126,7 @@ module _ (w : Width) (a b : ℤ) where
   quotient-too-large fa fb ta tb =
       let ea = bits-of-lowest w a fa ta in
       let eb = bits-of-minus-one w b fb tb in
-      sym (by-tests (bits w) a b false (ap isZero eb) (quotient-out-of-range w a b (ea ∙ lowest-is w) eb))
+      sym (by-tests (bits w) a b false (ap isZero eb) (quotient-out-of-range (bits w) a b (ea ∙ lowest-is w) eb))
 
   -- b is not 0, and it is not the smallest number by -1: as tests of the bits have it
   module _ (fa : SFits w a) (fb : SFits w b) (n : ofZ w b ≡ 0 → ⊥) (o : (ofZ w b ≡ 2 ^ bits w - 1 → ⊥) ⊎ (ofZ w a ≡ 2 ^ hbits w → ⊥)) where
@@ -133,7 +144,10 @@ module _ (w : Width) (a b : ℤ) where
 
     pub quotient-is : number (toZ w (ofZ w (quotZ (toZ w (ofZ w a)) (toZ w (ofZ w b))))) ≡ quotientOf (bits w) a b
     quotient-is =
-        ap number (ap (λ q. toZ w (ofZ w q)) read ∙ toZ-ofZ fits ∙ sym (rust-div-is a b)) ∙ sym (by-tests (bits w) a b true (zero-or-not b (not-zero w b n)) (quotient-in-range w a b fa (subst (λ z. (b ≢ negsuc 0) ⊎ (a ≢ z)) (lowest-is w) apart)))
+        let o = subst (λ z. (b ≢ negsuc 0) ⊎ (a ≢ z)) (lowest-is w) apart in
+        let r = quotient-in-range (bits w) a b (fits-range w a fa) o in
+        ap number (ap (λ q. toZ w (ofZ w q)) read ∙ toZ-ofZ fits ∙ sym (rust-div-is a b))
+        ∙ sym (by-tests (bits w) a b true (zero-or-not b (not-zero w b n)) r)
 
   pub remainder-is : SFits w a → SFits w b → (ofZ w b ≡ 0 → ⊥) → number (toZ w (ofZ w (remZ (toZ w (ofZ w a)) (toZ w (ofZ w b))))) ≡ remainderOf a b
   unfolding remainderOf
@@ -147,8 +161,11 @@ rem-minus-one : (a : ℤ) → remZ a (negsuc 0) ≡ pos 0
 rem-minus-one (pos a) = ap pos (mod-one a)
 rem-minus-one (negsuc a) = ap (λ r. negℤ (pos r)) (mod-one (suc a))
 
-pub remainder-by-minus-one : (w : Width) (a b : ℤ) → SFits w b → ofZ w b ≡ 2 ^ bits w - 1 → number (pos 0) ≡ remainderOf a b
+pub by-minus-one-leaves-0 : (a : ℤ) → remainderOf a (negsuc 0) ≡ number (pos 0)
 unfolding remainderOf
+by-minus-one-leaves-0 a = ap number (rust-rem-is a (negsuc 0) ∙ rem-minus-one a)
+
+pub remainder-by-minus-one
+    : (w : Width) (a b : ℤ) → SFits w b → ofZ w b ≡ 2 ^ bits w - 1 → number (pos 0) ≡ remainderOf a b
 remainder-by-minus-one w a b f t =
-    let e = bits-of-minus-one w b f t in
-    ap number (sym (rust-rem-is a (negsuc 0) ∙ rem-minus-one a)) ∙ sym (ap (remainderOf a) e)
+    sym (ap (remainderOf a) (bits-of-minus-one w b f t) ∙ by-minus-one-leaves-0 a)

@@ -1,10 +1,11 @@
 -- The truncating quotient and remainder of signed numbers of W bits, and what an answer is in numbers.
 -- Assumes nothing.
+use mathlib.Core.Path.{_≡_}
 use mathlib.Core.Bool.{Bool, true, false, cond}
-use Prim.Native.Nat.{ℕ, zero, suc, _-_, _^_}
+use Prim.Native.Nat.{ℕ, zero, suc, _-_, _/_, _^_}
 use lib.Dec.{ltb}
-use lib.IntN.{ℤ, pos, negsuc}
-use lib.Signed.{mag}
+use lib.IntN.{ℤ, pos, negsuc, natAbs, _-ℤ_, _*ℤ_}
+use lib.Signed.{mag, _≤ℤ_}
 use Rattle.whole.specs.div-mod.{rust-div, rust-rem}
 use Rattle.checked.specs.Paper.{numberOf}
 use Rattle.signed.specs.declared.types.Signed8.{Signed8}
@@ -62,3 +63,14 @@ quotientOf W a b = cond (isZero b) (refused 1) (cond (inRange W (rust-div a b)) 
 
 unfoldable pub remainderOf : ℤ → ℤ → Answer
 remainderOf a b = cond (isZero b) (refused 1) (number (rust-rem a b))
+
+-- ---- in the words of the promises
+
+-- q is the whole part of |a| / |b| with the sign of the exact quotient, which is the sign of a * b
+abbrev pub WholePart : ℤ → ℤ → ℤ → Type 0
+WholePart a b q =
+    (natAbs q ≡ natAbs a / natAbs b) × (pos 0 ≤ℤ (a *ℤ b) → pos 0 ≤ℤ q) × ((a *ℤ b) ≤ℤ pos 0 → q ≤ℤ pos 0)
+
+-- r is a - b * q, where q is that whole part
+abbrev pub LeftOver : ℤ → ℤ → ℤ → Type 0
+LeftOver a b r = (q : ℤ) × WholePart a b q × (r ≡ a -ℤ b *ℤ q)

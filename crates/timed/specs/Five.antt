@@ -1,12 +1,13 @@
 -- A list with an answer's five numbers stored in its first places, the code and the place before the rest.
 -- Assumes nothing.
+use mathlib.Core.Path.{_≡_}
 use mathlib.Core.List.{List, [], _∷_}
 use Prim.Native.Nat.{ℕ}
 use lib.Seq.{sets}
 use Rattle.checked.specs.Paper.{Paper}
 use Rattle.recipe.specs.Run.{Shown}
 use Rattle.field.specs.Range.{Scanned}
-use Rattle.layout.specs.Reading.{Reading}
+use Rattle.layout.specs.Reading.{Reading, readingOf, numbersAfter, marksAfter}
 use Rattle.search.specs.Search.{Searched}
 
 abbrev pub ofAnswer : Paper → ℕ → List ℕ → List ℕ
@@ -23,3 +24,10 @@ ofReading r old = sets old 0 (r .code ∷ r .place ∷ r .number ∷ r .count �
 
 abbrev pub ofSearch : Searched → List ℕ → List ℕ
 ofSearch s old = sets old 0 (s .code ∷ s .place ∷ s .found ∷ s .position ∷ s .within ∷ [])
+
+-- the whole contract of the reader's entry: what the two lists and the list of five hold afterwards
+abbrev pub StoresReading : List ℕ → List ℕ → List ℕ → List ℕ → List ℕ → List ℕ → List ℕ → Type 0
+StoresReading b numbers marks result ns ms five =
+    (ns ≡ numbersAfter b numbers marks)
+    × (ms ≡ marksAfter b numbers marks)
+    × (five ≡ ofReading (readingOf b numbers marks) result)

@@ -1,6 +1,7 @@
--- `power_fits` meets its contract. What `fits_by` requires of the table, its rule, is computed over the whole of it.
+-- `power_fits` meets its contract. The constant that it hands to `fits_by` is the table.
 -- Assumes nothing.
 use borrow.Author.Needs.{needs}
+use Rattle.fit.specs.Fit.{largestBases}
 use Rattle.fit.proofs.Fits.{small-exponent, large-exponent}
 use Rattle.fit.proofs.power_fits.Statement.{statement}
 use Rattle.fit.proofs.power_fits.Tie as tie
@@ -12,6 +13,7 @@ returns-2 : tie.Need-returns-2
 returns-2 c = large-exponent _ _ (c .if2 .taken)
 
 fits-by-requires : tie.Need-fits-by-requires
+unfolding largestBases
 fits-by-requires c κs = search needs
 
 returns-3 : tie.Need-returns-3

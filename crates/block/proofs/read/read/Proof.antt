@@ -8,7 +8,7 @@ use Rattle.checked.proofs.Unique.{not-zero}
 use Rattle.layout.specs.Layout.{editionOf}
 use Rattle.layout.specs.Sound.{faultOf}
 use Rattle.layout.proofs.Faults.{read-fault}
-use Rattle.block.specs.Answers.{fault}
+use Rattle.block.specs.Answers.{looked}
 use Rattle.block.proofs.Readings.{refused-so}
 use Rattle.block.proofs.read.read.Statement.{statement}
 use Rattle.block.proofs.read.read.Tie as tie
@@ -21,7 +21,8 @@ enum-told c = search needs
 
 values-requires : tie.Need-values-requires
 values-requires c κs =
-    sym (c .before .before .before .before .sound .ensures) ∙ ap fault (c .before .before .enum-told .given .1)
+    ap (λ s. s .code)
+    (sym (c .before .before .before .before .sound .ensures) ∙ ap looked (c .before .before .enum-told .given .1))
 
 enum-known-refusal : tie.Need-enum-known-refusal
 enum-known-refusal c = search needs
@@ -41,7 +42,8 @@ returns-2 c =
     let s = d .before .before .before .before in
     let a = s .args in
     let r = c .before .refusal .given .0 .0 in
-    let f : faultOf (a .block .now) ≡ numberOf r = sym (d .sound .ensures) ∙ ap fault (c .before .refusal .given .1) in
+    let f : faultOf (a .block .now) ≡ numberOf r =
+    ap (λ s. s .code) (sym (d .sound .ensures) ∙ ap looked (c .before .refusal .given .1)) in
     let n : numberOf r ≡ 0 → ⊥ = eqb-false (numberOf r) 0 (not-zero r) in
     refused-so (editionOf (a .block .now)) (a .block .now) (a .numbers .now) (a .marks .now) (numberOf r)
     (read-fault (editionOf (a .block .now)) (a .block .now) (a .numbers .now) (a .marks .now) (λ z. n (sym f ∙ z)) ∙ f)

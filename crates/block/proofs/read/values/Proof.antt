@@ -9,9 +9,9 @@ use Rattle.little.specs.Bytes.{part, little}
 use Rattle.layout.specs.Editions.{one}
 use Rattle.layout.specs.Layout.{blockNumber, count}
 use Rattle.layout.specs.Reading.{given}
-use Rattle.layout.proofs.Faults.{numbers-short, marks-short, read-sound}
+use Rattle.layout.proofs.Faults.{read-sound}
 use Rattle.layout.proofs.Layouts.{sound-sizes}
-use Rattle.block.proofs.Readings.{refused-so, given-so}
+use Rattle.block.proofs.Readings.{numbers-short-so, marks-short-so, given-so}
 use Rattle.block.proofs.read.values.Statement.{statement}
 use Rattle.block.proofs.read.values.Tie as tie
 
@@ -28,19 +28,10 @@ cast-count : tie.Need-cast-count
 cast-count c = omega (arith, c .shared-slice-known2 .given 4)
 
 returns : tie.Need-returns
-returns c =
-    let s = c .before .before .before .before .before in
-    let a = s .args in
-    refused-so one (a .block .now) (a .numbers .now) (a .marks .now) 19
-    (numbers-short one (a .block .now) (a .numbers .now) (a .marks .now) (s .pre) (c .if1 .taken)) (λ e. omega arith)
+returns c = numbers-short-so one _ _ _ (search needs) (search needs)
 
 returns-2 : tie.Need-returns-2
-returns-2 c =
-    let s = c .before .before .before .before .before .before in
-    let a = s .args in
-    refused-so one (a .block .now) (a .numbers .now) (a .marks .now) 19
-    (marks-short one (a .block .now) (a .numbers .now) (a .marks .now) (s .pre) (c .before .if1 .left) (c .if2 .taken))
-    (λ e. omega arith)
+returns-2 c = marks-short-so one _ _ _ (search needs) (search needs) (search needs)
 
 copy-numbers-requires : tie.Need-copy-numbers-requires
 copy-numbers-requires c κs =

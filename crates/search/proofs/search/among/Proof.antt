@@ -20,7 +20,7 @@ use Rattle.layout.specs.Sound.{faultOf}
 use Rattle.layout.specs.Runs.{blockAt}
 use Rattle.layout.proofs.Layouts.{sound-sizes}
 use Rattle.layout.proofs.Runs.{block-taken, block-length}
-use Rattle.block.specs.Answers.{fault}
+use Rattle.block.specs.Answers.{looked}
 use Rattle.search.specs.Search.{foundAt, endAt, Quiet, NoneBefore, OverflowsFirstAt}
 use Rattle.search.proofs.Walks.{none-before-0, none-before-more, no-marks-quiet, bad-ends, found-ends, none-ends}
 use Rattle.search.proofs.Ends.{passes-quiet}
@@ -65,7 +65,8 @@ module _ (d : tie.In-search Inv-loop μ-loop Inv-search μ-search) where
 sound-here
     : (c : tie.After-enum-told Inv-loop μ-loop Inv-search μ-search) →
     faultOf (block (c .before .before .before .before)) ≡ 0
-sound-here c = sym (c .before .before .sound .ensures) ∙ ap fault (c .enum-told .given .1)
+sound-here c =
+    ap (λ s. s .code) (sym (c .before .before .sound .ensures) ∙ ap looked (c .enum-told .given .1))
 
 count-here
     : (c : tie.After-enum-told Inv-loop μ-loop Inv-search μ-search) →
@@ -120,7 +121,7 @@ returns c =
     let d = c .before .before .before .before .before in
     let r = c .before .refusal .given .0 .0 in
     let f : faultOf (block d) ≡ numberOf r =
-    sym (c .before .before .before .sound .ensures) ∙ ap fault (c .before .refusal .given .1) in
+    ap (λ s. s .code) (sym (c .before .before .before .sound .ensures) ∙ ap looked (c .before .refusal .given .1)) in
     bad-ends (run d) (blocks d) (d .before .before .before .pre) (position d) (d .before .search .inv .0) (numberOf r)
     (d .search-test .taken) (ap faultOf (sym (same d)) ∙ f) (eqb-false (numberOf r) 0 (not-zero r))
 
