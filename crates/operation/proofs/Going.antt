@@ -11,21 +11,16 @@ use Rattle.steps.specs.declared.types.Phase.{Phase}
 use Rattle.steps.specs.declared.types.Phase.the-variants.{InPower, InLogarithm}
 use Rattle.steps.specs.declared.types.Power.{Power}
 use Rattle.steps.specs.declared.types.Logarithm.{Logarithm}
-use Rattle.steps.specs.Steps.{Outcome, value, within, fails, powerStep, logarithmStep}
+use Rattle.steps.specs.Steps.{Outcome, value, within, powerStep, logarithmStep}
 use Rattle.operation.specs.Work.{reach, goneOn}
 use Rattle.operation.proofs.Outcomes.{inLogarithm, dividing-goes, dividing-ends}
 
 -- ---- no further step
 
-pub value-stays : (M k t : ℕ) (v : Value) → reach (value v) t ≡ goneOn M k t (value v)
+value-stays : (M k t : ℕ) (v : Value) → reach (value v) t ≡ goneOn M k t (value v)
 unfolding goneOn
 value-stays M zero t v = refl
 value-stays M (suc k) t v = refl
-
-pub refusal-stays : (M k t code : ℕ) → reach (fails code) t ≡ goneOn M k t (fails code)
-unfolding goneOn
-refusal-stays M zero t code = refl
-refusal-stays M (suc k) t code = refl
 
 module _ (M a t : ℕ) where
   -- the allowance is spent

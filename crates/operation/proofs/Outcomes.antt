@@ -138,12 +138,6 @@ module _ (M : ℕ) (a b : Value) (k : ℕ) where
       o ≡ begunAs M (kindOf k) a b
   begins h i e = e ∙ ap (λ κ. begunAs M κ a b) (sym (ap kindOf i ∙ h))
 
-  -- the same, of an outcome that is sound
-  pub begins-soundly
-      : {j : ℕ} {q : Operation} {o : Outcome} {S : Type 0} → kindOf j ≡ operation q → k ≡ j →
-      (o ≡ begun M q a b) × S → (o ≡ begunAs M (kindOf k) a b) × S
-  begins-soundly h i (e, s) = (begins h i e, s)
-
   -- 0 is a literal's, and there is no kind from 7 on
   pub literal-begins : k ≡ 0 → fails 8 ≡ begunAs M (kindOf k) a b
   literal-begins z = sym (ap (λ κ. begunAs M κ a b) (ap kindOf z ∙ kind-at 0))

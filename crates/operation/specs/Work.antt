@@ -1,10 +1,13 @@
--- An operation from its first step on, as far as an allowance brings it: what it has come to, and after how many of
--- the run's steps.
+-- An operation's first step, and its further steps from a phase on, as far as an allowance brings it: what it has come
+-- to, and after how many of the run's steps.
 -- Assumes nothing.
+use mathlib.Core.Bool.{Bool, true, false, cond, _&&_}
 use Prim.Native.Nat.{ℕ, zero, suc, _+_, _-_, _^_, _≤_, _<_}
-use Rattle.checked.specs.Value.{Value}
+use lib.Dec.{leb, ltb}
+use Rattle.checked.specs.Value.{Value, limitOf}
 use Rattle.checked.specs.Paper.{numberOf}
 use Rattle.shape.specs.Items.{Kind, literal, operation, unknown}
+use Rattle.steps.specs.declared.types.Logarithm.{Logarithm}
 use Rattle.steps.specs.declared.types.Phase.{Phase}
 use Rattle.steps.specs.declared.types.Phase.the-variants.{Between, InPower, InLogarithm}
 use Rattle.steps.specs.Steps as steps
@@ -13,7 +16,15 @@ use Rattle.operation.specs.declared.types.Outcome.the-variants as outcom
 use Rattle.operation.specs.declared.types.Reached.{Reached}
 use Rattle.operation.specs.declared.types.Reached.the-variants as reached
 
--- ---- how far it comes
+-- ---- the first step
+
+-- what the operation of a kind begins with; what is no operation is refused with 8
+abbrev pub begunAs : ℕ → Kind → Value → Value → steps.Outcome
+begunAs M literal a b = steps.fails 8
+begunAs M (operation o) a b = steps.begun M o a b
+begunAs M unknown a b = steps.fails 8
+
+-- ---- the further steps
 
 pub record Reach : Type 0 where
   pub outcome : steps.Outcome
@@ -21,12 +32,6 @@ pub record Reach : Type 0 where
 
 abbrev pub reach : steps.Outcome → ℕ → Reach
 reach o t = record { outcome = o; taken = t }
-
--- what the operation of a kind begins with; what is no operation is refused with 8
-abbrev pub begunAs : ℕ → Kind → Value → Value → steps.Outcome
-begunAs M literal a b = steps.fails 8
-begunAs M (operation o) a b = steps.begun M o a b
-begunAs M unknown a b = steps.fails 8
 
 -- at most k further steps of an operation that has come to this after t steps
 unfoldable pub goneOn : ℕ → ℕ → ℕ → steps.Outcome → Reach
@@ -39,9 +44,15 @@ goneOn M (suc k) t (steps.within (InLogarithm q)) =
     goneOn M k (suc t) (steps.logarithmStep (q .base) (q .left) (q .count))
 goneOn M (suc k) t (steps.fails code) = reach (steps.fails code) t
 
--- begun with the last of `from` steps, with an allowance of a
-abbrev pub workOf : ℕ → Kind → Value → Value → ℕ → ℕ → Reach
-workOf M k l r from a = goneOn M (a - from) from (begunAs M k l r)
+-- whether an operation may be in this phase: a logarithm never divides by 0 there, and its count never wraps
+abbrev pub sound : Phase → Bool
+sound Between = false
+sound (InPower p) = true
+sound (InLogarithm q) = ltb 1 (q .base) && leb (q .base) (q .left) && leb (q .count) (limitOf 64 - q .left)
+
+-- from a phase on, after t steps and with an allowance of a; in a phase where no operation may be no step is taken
+abbrev pub workOf : ℕ → Phase → ℕ → ℕ → Reach
+workOf M p t a = cond (sound p) (goneOn M (a - t) t (steps.within p)) (reach (steps.within p) t)
 
 -- ---- the code's answers
 
@@ -50,11 +61,9 @@ outcome (outcomes.Value v) = steps.value v
 outcome (outcomes.Within p) = steps.within p
 outcome (outcomes.Refused r) = steps.fails (numberOf r)
 
--- the operation's first step is the last of `from`
-abbrev pub reachOf : ℕ → Reached → Reach
-reachOf from (reached.Value v t) = reach (steps.value v) t
-reachOf from (reached.Within p t) = reach (steps.within p) t
-reachOf from (reached.Refused r) = reach (steps.fails (numberOf r)) from
+abbrev pub reachOf : Reached → Reach
+reachOf (reached.Value v t) = reach (steps.value v) t
+reachOf (reached.Within p t) = reach (steps.within p) t
 
 -- ---- what the private functions ask of each other
 
@@ -62,13 +71,6 @@ reachOf from (reached.Refused r) = reach (steps.fails (numberOf r)) from
 abbrev pub SoundLogarithm : ℕ → ℕ → ℕ → Type 0
 SoundLogarithm base left count = (1 < base) × (count + left < 2 ^ 64)
 
--- an operation's phase is that of a power or of a logarithm
-abbrev pub Sound : Phase → Type 0
-Sound Between = ⊥
-Sound (InPower p) = Unit {0}
-Sound (InLogarithm q) = SoundLogarithm (q .base) (q .left) (q .count) × (q .base ≤ q .left)
-
-abbrev pub SoundOutcome : Outcome → Type 0
-SoundOutcome (outcomes.Value v) = Unit {0}
-SoundOutcome (outcomes.Within p) = Sound p
-SoundOutcome (outcomes.Refused r) = Unit {0}
+-- a logarithm with steps to take
+abbrev pub Sound : Logarithm → Type 0
+Sound q = SoundLogarithm (q .base) (q .left) (q .count) × (q .base ≤ q .left)

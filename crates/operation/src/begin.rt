@@ -1,4 +1,4 @@
-// The first step of an operation.
+// The first step of an operation: it has its value, it enters a phase, or it is refused.
 use crate::types::Outcome;
 use crate::within::dividing;
 use crate::within::powering;
@@ -14,11 +14,11 @@ ghost use Prim.Native.Nat.{_<_};
 ghost use Rattle.checked.specs.declared.types.Checked64.the-variants.{Fits};
 ghost use Rattle.shape.specs.Items.{kindOf, quotient, remainder, power, logarithm};
 ghost use Rattle.steps.specs.Steps.{begun};
-ghost use Rattle.operation.specs.Work.{outcome, SoundOutcome, begunAs};
+ghost use Rattle.operation.specs.Work.{outcome, begunAs};
 
 // l by r, where both fit.
 fn begin_quotient(limit: u64, l: u64, r: u64) -> Outcome
-    ensures { λ o. ⌜ (outcome o ≡ begun limit quotient (Fits l) (Fits r)) × SoundOutcome o ⌝ }
+    ensures { λ o. ⌜ outcome o ≡ begun limit quotient (Fits l) (Fits r) ⌝ }
 {
     if r == 0 {
         return Outcome::Refused(Refusal::DivisorZero);
@@ -27,7 +27,7 @@ fn begin_quotient(limit: u64, l: u64, r: u64) -> Outcome
 }
 
 fn begin_remainder(limit: u64, l: u64, r: u64) -> Outcome
-    ensures { λ o. ⌜ (outcome o ≡ begun limit remainder (Fits l) (Fits r)) × SoundOutcome o ⌝ }
+    ensures { λ o. ⌜ outcome o ≡ begun limit remainder (Fits l) (Fits r) ⌝ }
 {
     if r == 0 {
         return Outcome::Refused(Refusal::DivisorZero);
@@ -36,13 +36,13 @@ fn begin_remainder(limit: u64, l: u64, r: u64) -> Outcome
 }
 
 fn begin_power(limit: u64, l: u64, r: u64) -> Outcome
-    ensures { λ o. ⌜ (outcome o ≡ begun limit power (Fits l) (Fits r)) × SoundOutcome o ⌝ }
+    ensures { λ o. ⌜ outcome o ≡ begun limit power (Fits l) (Fits r) ⌝ }
 {
     powering(checked_of(limit, 1), Checked64::Fits(l), r)
 }
 
 fn begin_logarithm(limit: u64, l: u64, r: u64) -> Outcome
-    ensures { λ o. ⌜ (outcome o ≡ begun limit logarithm (Fits l) (Fits r)) × SoundOutcome o ⌝ }
+    ensures { λ o. ⌜ outcome o ≡ begun limit logarithm (Fits l) (Fits r) ⌝ }
 {
     if l < 2 {
         return Outcome::Refused(Refusal::BaseBelowTwo);
@@ -53,7 +53,7 @@ fn begin_logarithm(limit: u64, l: u64, r: u64) -> Outcome
 // Kinds 3 to 6 on numbers that fit.
 fn begin_fitting(limit: u64, kind: u8, l: u64, r: u64) -> Outcome
     requires { ⌜ (2 < kind) × (kind < 7) ⌝ }
-    ensures { λ o. ⌜ (outcome o ≡ begunAs limit (kindOf kind) (Fits l) (Fits r)) × SoundOutcome o ⌝ }
+    ensures { λ o. ⌜ outcome o ≡ begunAs limit (kindOf kind) (Fits l) (Fits r) ⌝ }
 {
     match kind {
         3 => begin_quotient(limit, l, r),
@@ -66,7 +66,7 @@ fn begin_fitting(limit: u64, kind: u8, l: u64, r: u64) -> Outcome
 // Kinds 3 to 6: an overflowed operand is refused before anything else is looked at.
 fn begin_both(limit: u64, kind: u8, left: Checked64, right: Checked64) -> Outcome
     requires { ⌜ (2 < kind) × (kind < 7) ⌝ }
-    ensures { λ o. ⌜ (outcome o ≡ begunAs limit (kindOf kind) left right) × SoundOutcome o ⌝ }
+    ensures { λ o. ⌜ outcome o ≡ begunAs limit (kindOf kind) left right ⌝ }
 {
     match both(left, right) {
         Both::Numbers(l, r) => begin_fitting(limit, kind, l, r),
@@ -74,9 +74,10 @@ fn begin_both(limit: u64, kind: u8, left: Checked64, right: Checked64) -> Outcom
     }
 }
 
-// What a kind begins with. Sums and products, which are the most frequent, are looked for first.
-pub(crate) fn begin(limit: u64, kind: u8, left: Checked64, right: Checked64) -> Outcome
-    ensures { λ o. ⌜ (outcome o ≡ begunAs limit (kindOf kind) left right) × SoundOutcome o ⌝ }
+// What the operation of a kind begins with on these two operands; what is no operation is refused with 8. Sums and
+// products, which are the most frequent, are looked for first.
+pub fn begin(limit: u64, kind: u8, left: Checked64, right: Checked64) -> Outcome
+    ensures { λ o. ⌜ outcome o ≡ begunAs limit (kindOf kind) left right ⌝ }
 {
     if kind == 1 {
         return Outcome::Value(add_checked(limit, left, right));

@@ -1,4 +1,4 @@
-// An operation of a recipe: `work::work` is the one entry, the other modules are its parts.
+// An operation of a recipe: `begin::begin` is its first step, `work::work` its further steps, and `within` has their parts.
 pub mod begin;
 pub mod types;
 pub mod within;

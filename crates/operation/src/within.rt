@@ -1,4 +1,5 @@
-// The further steps of a power and of a logarithm, each in a loop of its own.
+// A power and a logarithm: how each enters its phase, and its further steps, in a loop of its own on what the phase
+// carries.
 use crate::types::Outcome;
 use crate::types::Reached;
 use checked::limited::mul_checked;
@@ -10,11 +11,11 @@ ghost use mathlib.Core.Path.{_≡_};
 ghost use Prim.Native.Nat.{ℕ, _-_};
 ghost use Rattle.steps.specs.declared.types.Phase.the-variants.{InPower, InLogarithm};
 ghost use Rattle.steps.specs.Steps as steps;
-ghost use Rattle.operation.specs.Work.{outcome, SoundLogarithm, Sound, SoundOutcome, goneOn, reachOf};
+ghost use Rattle.operation.specs.Work.{outcome, Sound, goneOn, reachOf};
 
-// A power ends at exponent 0 with its first value.
+// A power ends at exponent 0 with its first value; with any other it enters its phase.
 pub(crate) fn powering(first: Checked64, second: Checked64, exponent: u64) -> Outcome
-    ensures { λ r. ⌜ (outcome r ≡ steps.powering first second exponent) × SoundOutcome r ⌝ }
+    ensures { λ r. ⌜ outcome r ≡ steps.powering first second exponent ⌝ }
 {
     if exponent == 0 {
         return Outcome::Value(first);
@@ -26,10 +27,9 @@ pub(crate) fn powering(first: Checked64, second: Checked64, exponent: u64) -> Ou
     }))
 }
 
-// A logarithm ends with its count where what is left is below the base.
+// A logarithm ends with its count where what is left is below the base; from the base up it enters its phase.
 pub(crate) fn dividing(base: u64, left: u64, count: u64) -> Outcome
-    requires { ⌜ SoundLogarithm base left count ⌝ }
-    ensures { λ r. ⌜ (outcome r ≡ steps.dividing base left count) × SoundOutcome r ⌝ }
+    ensures { λ r. ⌜ outcome r ≡ steps.dividing base left count ⌝ }
 {
     if base <= left {
         return Outcome::Within(Phase::InLogarithm(Logarithm {
@@ -43,8 +43,8 @@ pub(crate) fn dividing(base: u64, left: u64, count: u64) -> Outcome
 
 // A power's further steps. Each takes a binary digit of the exponent, from the last one up; the square after the first
 // digit, which nobody sees, is not worked out.
-fn power_on(limit: u64, p: Power, from: u64, allowance: u64) -> Reached
-    ensures { λ r. ⌜ reachOf from r ≡ goneOn limit (allowance - from) from (steps.within (InPower p)) ⌝ }
+pub(crate) fn power_on(limit: u64, p: Power, from: u64, allowance: u64) -> Reached
+    ensures { λ r. ⌜ reachOf r ≡ goneOn limit (allowance - from) from (steps.within (InPower p)) ⌝ }
 {
     let mut first = p.first;
     let mut second = p.second;
@@ -72,9 +72,9 @@ fn power_on(limit: u64, p: Power, from: u64, allowance: u64) -> Reached
 }
 
 // A logarithm's further steps. Each divides by the base, and counts one more.
-fn logarithm_on(q: Logarithm, from: u64, allowance: u64) -> Reached
-    requires { ⌜ Sound (InLogarithm q) ⌝ }
-    ensures { λ r. ⌜ ((M : ℕ) → reachOf from r ≡ goneOn M (allowance - from) from (steps.within (InLogarithm q))) ⌝ }
+pub(crate) fn logarithm_on(q: Logarithm, from: u64, allowance: u64) -> Reached
+    requires { ⌜ Sound q ⌝ }
+    ensures { λ r. ⌜ ((M : ℕ) → reachOf r ≡ goneOn M (allowance - from) from (steps.within (InLogarithm q))) ⌝ }
 {
     let base = q.base;
     let mut left = q.left;
@@ -96,28 +96,4 @@ fn logarithm_on(q: Logarithm, from: u64, allowance: u64) -> Reached
         }),
         taken,
     )
-}
-
-// The further steps in this phase, which is never between items.
-fn phase_on(limit: u64, phase: Phase, from: u64, allowance: u64) -> Reached
-    requires { ⌜ Sound phase ⌝ }
-    ensures { λ r. ⌜ reachOf from r ≡ goneOn limit (allowance - from) from (steps.within phase) ⌝ }
-{
-    match phase {
-        Phase::Between => Reached::Within(Phase::Between, from),
-        Phase::InPower(p) => power_on(limit, p, from, allowance),
-        Phase::InLogarithm(q) => logarithm_on(q, from, allowance),
-    }
-}
-
-// From what an operation begins with, after `from` steps of the run, as far as the allowance brings it.
-pub(crate) fn go_on(limit: u64, o: Outcome, from: u64, allowance: u64) -> Reached
-    requires { ⌜ SoundOutcome o ⌝ }
-    ensures { λ r. ⌜ reachOf from r ≡ goneOn limit (allowance - from) from (outcome o) ⌝ }
-{
-    match o {
-        Outcome::Value(v) => Reached::Value(v, from),
-        Outcome::Within(p) => phase_on(limit, p, from, allowance),
-        Outcome::Refused(refusal) => Reached::Refused(refusal),
-    }
 }

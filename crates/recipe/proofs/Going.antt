@@ -6,13 +6,13 @@ use mathlib.Core.List.{List, _∷_}
 use Prim.Native.Nat.{ℕ, zero, suc, _+_, _-_, _<_}
 use native.Mathlib.Omega.{arith}
 use Rattle.checked.specs.Value.{Value}
-use Rattle.shape.specs.Items.{Item, Kind, literal, operation, unknown}
+use Rattle.shape.specs.Items.{Item}
 use Rattle.steps.specs.declared.types.Phase.{Phase}
 use Rattle.steps.specs.declared.types.Phase.the-variants.{Between, InPower, InLogarithm}
 use Rattle.steps.specs.Steps.{Outcome, value, within, fails, powerStep, logarithmStep, going, refused, landed, step, after}
 use Rattle.steps.proofs.Runs.{ended-stays}
-use Rattle.steps.proofs.Within.{Working, power-works, logarithm-works, begun-works}
-use Rattle.operation.specs.Work.{Reach, begunAs, goneOn}
+use Rattle.steps.proofs.Within.{Working, power-works, logarithm-works}
+use Rattle.operation.specs.Work.{Reach, goneOn}
 use Rattle.recipe.specs.Machine.{rest, placed, placedAs, Kept}
 
 -- ---- a step
@@ -85,9 +85,3 @@ module _ (M a : ℕ) where
       let later = goes-on k (suc t) o (logarithm-works q) (omega arith) in
       goes-further t (InLogarithm q) o (goneOn M k (suc t) o) (omega arith) (λ d hand x xs. refl) later
   goes-on (suc k) t (fails code) w e = (λ d hand x xs. refl, tt)
-
--- what a kind begins with is never a phase between items
-pub kind-works : (M : ℕ) (k : Kind) (a b : Value) → Working (begunAs M k a b)
-kind-works M literal a b = tt
-kind-works M (operation o) a b = begun-works M o a b
-kind-works M unknown a b = tt

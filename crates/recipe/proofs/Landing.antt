@@ -1,78 +1,61 @@
--- An item's end in the state: the three ways in which it lands, and an operation's operands, which leave the hand before it.
+-- An operation's operands, which leave the hand with its first step, and an item's value, which is put on it with the
+-- last.
 -- Assumes nothing.
-use mathlib.Core.Path.{_≡_, ap, sym, _∙_, subst}
+use mathlib.Core.Path.{_≡_, refl, ap, ap₂, sym, _∙_, subst}
 use mathlib.Core.List.{List, _∷_}
 use Prim.Native.Nat.{ℕ, suc, _+_, _-_, _≤_, _<_}
 use native.Mathlib.Numerals.{add-one}
 use native.Mathlib.Omega.{arith}
-use lib.ListN.{set, getD, drop}
+use lib.ListN.{set, length, getD, drop}
 use Rattle.checked.specs.declared.refusal.Refusal.{Refusal}
 use Rattle.checked.specs.Value.{Value}
+use Rattle.checked.specs.Paper.{numberOf}
 use Rattle.shape.specs.Items.{Item, Kind, Operation, operation}
 use Rattle.shape.specs.Shape.{Good}
 use Rattle.steps.specs.declared.types.Phase.{Phase}
-use Rattle.steps.specs.declared.types.Phase.the-variants.{Between}
+use Rattle.steps.specs.declared.types.Phase.the-variants.{Between, InPower, InLogarithm}
 use Rattle.steps.specs.Steps as steps
-use Rattle.operation.specs.declared.types.Reached.{Reached}
-use Rattle.operation.specs.declared.types.Reached.the-variants as reached
-use Rattle.operation.specs.Work.{begunAs, reachOf, workOf}
-use Rattle.recipe.specs.declared.types.Advanced.{Advanced}
-use Rattle.recipe.specs.declared.types.Advanced.the-variants as advanced
+use Rattle.operation.specs.declared.types.Outcome.{Outcome}
+use Rattle.operation.specs.declared.types.Outcome.the-variants as outcomes
+use Rattle.operation.specs.Work.{begunAs, outcome}
+use Rattle.operation.proofs.Sound.{SoundOutcome, begun-sound, sound-works}
+use Rattle.recipe.specs.declared.types.Entered.{Entered}
+use Rattle.recipe.specs.declared.types.Entered.the-variants as entered
+use Rattle.recipe.specs.declared.types.State.{State}
 use Rattle.recipe.specs.Run.{markOf, numberIn}
-use Rattle.recipe.specs.Machine.{rest, reachedOf, Keeps, valueOf, handOf, Shows}
-use Rattle.recipe.specs.Machine.{advancedOf, Ready, Lands, Operates}
+use Rattle.recipe.specs.Machine.{valueOf, handOf, Shows, stateOf, between, AtWork, Ahead, Stands, placed}
+use Rattle.recipe.specs.Machine.{Finishes, enteredOf, Ready, Operates}
 use Rattle.recipe.proofs.Places.{put-shows, take-shows}
-use Rattle.recipe.proofs.Going.{landed-placed, GoesOn, goes-on, kind-works}
+use Rattle.recipe.proofs.Going.{landed-placed}
 
--- ---- an item lands
+-- ---- an item's value
 
-module _ (held : ℕ) (hand marks : List ℕ) (shown : Shows held hand marks) where
-  pub value-lands
-      : {o : Reached} {hand' marks' : List ℕ} {v : Value} {t : ℕ} → held < 32 → hand' ≡ set hand held (numberIn v) →
-      marks' ≡ set marks held (markOf v) → o ≡ reached.Value v t →
-      Lands held hand marks hand' marks' o (advanced.Done (held + 1) t)
-  value-lands {o} {hand'} {marks'} {v} {t} room p q e = record { lands = lands; ready = ready }
-    where
-      put : (handOf (held + 1) hand' marks' ≡ v ∷ handOf held hand marks) × Shows (held + 1) hand' marks'
-      put =
-          subst (λ n. (handOf n hand' marks' ≡ v ∷ handOf held hand marks) × Shows n hand' marks') (sym (add-one held))
-          (put-shows held hand marks hand' marks' v shown room p q)
+pub finishes
+    : {held d taken : ℕ} {v : Value} {hand marks hand' marks' : List ℕ} → Shows held hand marks → held < 32 →
+    hand' ≡ set hand held (numberIn v) → marks' ≡ set marks held (markOf v) →
+    Finishes held d taken v hand marks hand' marks' (between (held + 1) (d + 1) taken)
+finishes {held} {d} {taken} {v} {hand} {marks} {hand'} {marks'} shown room p q =
+    let w = put-shows held hand marks hand' marks' v shown room p q in
+    record { is = ap₂ (λ n d. between n d taken) (add-one held) (add-one d); on = w .0; shows = w .1 }
 
-      lands
-          : (from d : ℕ) (zs : List Item) (x : Item) → drop d zs ≡ x ∷ drop (suc d) zs →
-          steps.going t (suc d) (handOf (held + 1) hand' marks') Between (drop (suc d) zs)
-          ≡ reachedOf from d (handOf held hand marks) x (drop (suc d) zs) o
-      lands from d zs x h =
-          ap (λ h. steps.going t (suc d) h Between (drop (suc d) zs)) (put .0)
-          ∙ ap (reachedOf from d (handOf held hand marks) x (drop (suc d) zs)) (sym e)
+module _
+    {held d taken : ℕ} {v : Value} {hand marks hand' marks' : List ℕ} {r : State}
+    (finished : Finishes held d taken v hand marks hand' marks' r) (zs : List Item)
+  where
+    pub finished-state
+        : stateOf zs hand' marks' r
+        ≡ steps.going taken (suc d) (v ∷ handOf held hand marks) Between (drop (suc d) zs)
+    finished-state =
+        ap (stateOf zs hand' marks') (finished .is)
+        ∙ ap (λ hand. steps.going taken (suc d) hand Between (drop (suc d) zs)) (finished .on)
 
-      ready
-          : (M a from d : ℕ) (zs : List Item) → Keeps a from o → Good M (suc held) (drop (suc d) zs) →
-          Shows (held + 1) hand' marks' × Good M (held + 1) (drop (suc d) zs) × (from ≤ t) × (t ≤ a)
-      ready M a from d zs k g =
-          let w = subst (Keeps a from) e k in
-          (put .1, subst (λ n. Good M n (drop (suc d) zs)) (sym (add-one held)) g, w .0, w .1)
-
-  pub within-lands
-      : {o : Reached} {p : Phase} {t : ℕ} → o ≡ reached.Within p t →
-      Lands held hand marks hand marks o (advanced.Within held p t)
-  within-lands {o} {p} {t} e = record { lands = lands; ready = λ M a from d zs k g. (shown, subst (Keeps a from) e k) }
-    where
-      lands
-          : (from d : ℕ) (zs : List Item) (x : Item) → drop d zs ≡ x ∷ drop (suc d) zs →
-          steps.going t d (handOf held hand marks) p (drop d zs)
-          ≡ reachedOf from d (handOf held hand marks) x (drop (suc d) zs) o
-      lands from d zs x h =
-          ap (steps.going t d (handOf held hand marks) p) h
-          ∙ ap (reachedOf from d (handOf held hand marks) x (drop (suc d) zs)) (sym e)
-
-  pub refusal-lands
-      : {o : Reached} {r : Refusal} → o ≡ reached.Refused r → Lands held hand marks hand marks o (advanced.Refused r)
-  refusal-lands e =
-      record {
-        lands = λ from d zs x h. ap (reachedOf from d (handOf held hand marks) x (drop (suc d) zs)) (sym e);
-        ready = λ M a from d zs k g. tt;
-      }
+    pub finished-stands
+        : (M : ℕ) → d < length zs → Good M (suc held) (drop (suc d) zs) →
+        Stands M zs hand' marks' r × (r .taken ≡ taken)
+    finished-stands M m g =
+        let stands : Stands M zs hand' marks' (between (suc held) (suc d) taken) =
+        record { shows = finished .shows; ahead = (m, g) } in
+        subst (λ r. Stands M zs hand' marks' r × (r .taken ≡ taken)) (sym (finished .is)) (stands, refl)
 
 -- ---- an operation's operands leave the hand, the right one first
 
@@ -87,11 +70,6 @@ pub record Taken (held : ℕ) (hand marks hand₁ marks₁ hand₂ marks₂ : Li
   pub right : Takes (held - 1) hand marks hand₁ marks₁ r
   pub left : Takes (held - 2) hand₁ marks₁ hand₂ marks₂ l
 
--- an operation on these operands, as far as the run's allowance brings it
-pub record Worked (M a from : ℕ) (k : Kind) (l r : Value) (w : Reached) : Type 0 where
-  pub allowed : from ≤ a
-  pub comes : reachOf from w ≡ workOf M k l r from a
-
 -- what was there, and what is under it
 taken-from
     : (held at : ℕ) (hand marks hand' marks' : List ℕ) (v : Value) → held ≡ suc at → Shows held hand marks →
@@ -99,6 +77,13 @@ taken-from
 taken-from held at hand marks hand' marks' v e s (is, (p, q)) =
     let w = take-shows held at hand marks hand' marks' e s p q in
     (w .0 ∙ ap (λ v. v ∷ handOf at hand' marks') (sym is), w .1)
+
+-- nothing is wrong in a phase that an operation has entered
+entered-ahead
+    : (M : ℕ) (zs : List Item) (held d : ℕ) (p : Phase) → AtWork M zs held d p → Ahead M zs held d p
+entered-ahead M zs held d Between w = absurd (sound-works Between (w .works))
+entered-ahead M zs held d (InPower p) w = w
+entered-ahead M zs held d (InLogarithm q) w = w
 
 module _
     {held : ℕ} {hand marks hand₁ marks₁ hand₂ marks₂ : List ℕ} {l r : Value}
@@ -115,32 +100,67 @@ module _
     pub both-taken : Shows (held - 2) hand₂ marks₂
     both-taken = second .1
 
-    pub operates
-        : {M a from : ℕ} {k : Kind} {hand' marks' : List ℕ} {w : Reached} {s : Advanced} → Worked M a from k l r w →
-        Lands (held - 2) hand₂ marks₂ hand' marks' w s → Operates M a from k held hand marks hand' marks' s
-    operates {M} {a} {from} {k} {hand'} {marks'} {w} {s} worked landed = record { leads = leads; ready = ready }
+    pub room-left : held - 2 < 32
+    room-left = let h = t .shown .0 in let m = t .two in omega arith
+
+    abbrev under : List Value
+    under = handOf (held - 2) hand₂ marks₂
+
+    -- what the operation of item d begins with
+    module _
+        (M from : ℕ) (k : Kind) (d : ℕ) (o : Outcome) (few : d < 256) (comes : outcome o ≡ begunAs M k l r)
       where
-        goes : GoesOn M a from (begunAs M k l r) (reachOf from w)
-        goes =
-            let h = worked .allowed in
-            let o = begunAs M k l r in
-            let on = goes-on M a (a - from) from o (kind-works M k l r) (omega arith) in
-            subst (GoesOn M a from o) (sym (worked .comes)) on
-
-        leads
-            : (t d : ℕ) (zs : List Item) (x : Item) (p : Operation) → from ≡ suc t → drop d zs ≡ x ∷ drop (suc d) zs →
+        begins
+            : (o' : Outcome) → o ≡ o' → (t' : ℕ) (zs : List Item) (x : Item) (p : Operation) → from ≡ suc t' →
             k ≡ operation p →
-            rest M a (steps.operating M t d (handOf held hand marks) p x (drop (suc d) zs))
-            ≡ rest M a (advancedOf from d zs hand' marks' s)
-        leads t d zs x p n h e =
+            steps.operating M t' d (handOf held hand marks) p x (drop (suc d) zs)
+            ≡ placed from d under x (drop (suc d) zs) (outcome o')
+        begins o' e t' zs x p n h =
             let xs = drop (suc d) zs in
-            let under = handOf (held - 2) hand₂ marks₂ in
-            ap (λ hand. rest M a (steps.operating M t d hand p x xs)) (first .0 ∙ ap (λ hand. r ∷ hand) (second .0))
-            ∙ ap (λ κ. rest M a (steps.landed t d under x xs (begunAs M κ l r))) (sym e)
-            ∙ ap (rest M a) (landed-placed t from d under x xs (begunAs M k l r) n)
-            ∙ goes .0 d under x xs ∙ ap (rest M a) (sym (landed .lands from d zs x h))
+            ap (λ hand. steps.operating M t' d hand p x xs) (first .0 ∙ ap (λ hand. r ∷ hand) (second .0))
+            ∙ ap (λ κ. steps.landed t' d under x xs (begunAs M κ l r)) (sym h)
+            ∙ ap (steps.landed t' d under x xs) (sym comes ∙ ap outcome e)
+            ∙ landed-placed t' from d under x xs (outcome o') n
 
-        ready : (d : ℕ) (zs : List Item) → Good M (held - 1) (drop (suc d) zs) → Ready M a from d zs hand' marks' s
-        ready d zs g =
-            let h = t .two in
-            landed .ready M a from d zs (goes .1) (subst (λ n. Good M n (drop (suc d) zs)) (omega arith) g)
+        one-more : (zs : List Item) → Good M (held - 1) (drop (suc d) zs) → Good M (suc (held - 2)) (drop (suc d) zs)
+        one-more zs g = let h = t .two in subst (λ n. Good M n (drop (suc d) zs)) (omega arith) g
+
+        pub value-operates
+            : {v : Value} {hand' marks' : List ℕ} {s : State} → o ≡ outcomes.Value v →
+            Finishes (held - 2) d from v hand₂ marks₂ hand' marks' s →
+            Operates M from k held d hand marks hand' marks' (entered.Going s)
+        value-operates {v} e f =
+            record {
+              leads = λ t' zs x p n h i. begins (outcomes.Value v) e t' zs x p n i ∙ sym (finished-state f zs);
+              ready = λ zs m g. finished-stands f zs M m (one-more zs g);
+            }
+
+        pub phase-operates
+            : {p : Phase} → o ≡ outcomes.Within p →
+            Operates M from k held d hand marks hand₂ marks₂
+            (entered.Going (record { held = held - 2; done = d; taken = from; phase = p }))
+        phase-operates {p} e =
+            record {
+              leads =
+                  λ t' zs x q n h i.
+                  begins (outcomes.Within p) e t' zs x q n i ∙ ap (steps.going from d under p) (sym h);
+              ready =
+                  λ zs m g. (
+                    record {
+                      shows = both-taken;
+                      ahead =
+                          entered-ahead M zs (held - 2) d p
+                          (record { works = works; room = room-left; few = few; more = m; good = one-more zs g });
+                    },
+                    refl,
+                  );
+            }
+          where
+            works : SoundOutcome (outcome (outcomes.Within p))
+            works = subst SoundOutcome (sym comes ∙ ap outcome e) (begun-sound M k l r)
+
+        pub refusal-operates
+            : {c : Refusal} → o ≡ outcomes.Refused c →
+            Operates M from k held d hand marks hand₂ marks₂ (entered.Refused c)
+        refusal-operates {c} e =
+            record { leads = λ t' zs x p n h i. begins (outcomes.Refused c) e t' zs x p n i; ready = λ zs m g. tt }

@@ -3,7 +3,8 @@ pub mod Places
 pub mod Hands
 pub mod Going
 pub mod Landing
-pub mod Advancing
+pub mod Entering
+pub mod Further
 pub mod Driving
 pub mod Shaped
 pub mod Courses

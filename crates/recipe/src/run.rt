@@ -33,14 +33,14 @@ fn ended(answer: Answer, steps: u64) -> Run
 }
 
 // Stopped: 20 at the number of items wholly done.
-fn stopped(state: State, steps: u64, hand: [u64; 32], marks: [u8; 32]) -> Run
-    ensures { λ r. ⌜ paper r ≡ drivenOf hand marks (Stopped state steps) ⌝ }
+fn stopped(state: State, hand: [u64; 32], marks: [u8; 32]) -> Run
+    ensures { λ r. ⌜ paper r ≡ drivenOf hand marks (Stopped state) ⌝ }
 {
     let done = state.done as u64;
     let phase = state.phase;
     Run {
         answer: Answer::Refused(Refusal::AllowanceSpent, done),
-        steps: steps,
+        steps: state.taken,
         done: done,
         numbers: hand,
         marks: marks,
@@ -58,7 +58,7 @@ fn conclude(driven: Driven, hand: [u64; 32], marks: [u8; 32]) -> Run
             Answer::Refused(refusal, item as u64),
             steps,
         ),
-        Driven::Stopped(state, steps) => stopped(state, steps, hand, marks),
+        Driven::Stopped(state) => stopped(state, hand, marks),
     }
 }
 

@@ -20,23 +20,23 @@ pub struct Run {
     pub phase: Phase,
 }
 
-// A run's state beside its hand: how many items are wholly done, and the phase.
+// A run's state beside its hand: how many values are on hand, how many items are wholly done, the steps taken, and the phase.
 pub struct State {
+    pub held: usize,
     pub done: usize,
+    pub taken: u64,
     pub phase: Phase,
 }
 
-// How far an allowance brings an item, in the run's state, and after how many of its steps: how many values are on
-// hand, with the item's own where it is done. A refusal comes with the item's first step.
-pub enum Advanced {
-    Done(usize, u64),
-    Within(usize, Phase, u64),
+// What an item's first step comes to: the state after it, in the phase that the item enters, or the item's refusal.
+pub enum Entered {
+    Going(State),
     Refused(Refusal),
 }
 
-// How far an allowance brought a run, and after how many steps: to its value, to a refused item, or to a state where it stopped.
+// How far an allowance brought a run: to its value or to a refused item, after how many steps, or to the state where it stopped.
 pub enum Driven {
     Finished(Checked64, u64),
     Refused(Refusal, usize, u64),
-    Stopped(State, u64),
+    Stopped(State),
 }

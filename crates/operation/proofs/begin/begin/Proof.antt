@@ -15,7 +15,7 @@ returns : tie.Need-returns
 returns c =
     let g = c .before .before .args in
     let sum = ap value (c .add-checked .ensures) ∙ begun-sum (g .limit) (g .left) (g .right) in
-    (begins (g .limit) (g .left) (g .right) (g .kind) (kind-at 1) (c .before .if1 .taken) sum, tt)
+    begins (g .limit) (g .left) (g .right) (g .kind) (kind-at 1) (c .before .if1 .taken) sum
 
 mul-checked-requires : tie.Need-mul-checked-requires
 mul-checked-requires c κs = search needs
@@ -24,17 +24,17 @@ returns-2 : tie.Need-returns-2
 returns-2 c =
     let g = c .before .before .before .args in
     let product = ap value (c .mul-checked .ensures) ∙ begun-product (g .limit) (g .left) (g .right) in
-    (begins (g .limit) (g .left) (g .right) (g .kind) (kind-at 2) (c .before .if2 .taken) product, tt)
+    begins (g .limit) (g .left) (g .right) (g .kind) (kind-at 2) (c .before .if2 .taken) product
 
 returns-3 : tie.Need-returns-3
 returns-3 c =
     let g = c .before .before .before .args in
-    (literal-begins (g .limit) (g .left) (g .right) (g .kind) (c .if3 .taken), tt)
+    literal-begins (g .limit) (g .left) (g .right) (g .kind) (c .if3 .taken)
 
 returns-4 : tie.Need-returns-4
 returns-4 c =
     let g = c .before .before .before .before .args in
-    (unknown-begins (g .limit) (g .left) (g .right) (g .kind) (c .if4 .taken), tt)
+    unknown-begins (g .limit) (g .left) (g .right) (g .kind) (c .if4 .taken)
 
 begin-both-requires : tie.Need-begin-both-requires
 begin-both-requires c κs = search needs

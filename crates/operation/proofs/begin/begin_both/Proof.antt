@@ -22,16 +22,15 @@ returns : tie.Need-returns
 returns c =
     let g = c .before .before .before .before .before .args in
     let v = c .before .before .l .given in
-    let b = c .begin-fitting .ensures in
     let fit = sym (c .before .before .before .before .both .ensures) ∙ v .1 in
-    (fitting-begins (g .limit) (g .left) (g .right) (g .kind) (v .0 .0) (v .0 .1 .0) fit (b .0), b .1)
+    fitting-begins (g .limit) (g .left) (g .right) (g .kind) (v .0 .0) (v .0 .1 .0) fit (c .begin-fitting .ensures)
 
 returns-2 : tie.Need-returns-2
 returns-2 c =
     let s = c .before .before .before in
     let g = s .args in
     let overflowed = sym (c .before .before .both .ensures) ∙ c .enum-told .given .1 in
-    (overflowed-begins (g .limit) (g .left) (g .right) (g .kind) (s .pre .0) (s .pre .1) overflowed, tt)
+    overflowed-begins (g .limit) (g .left) (g .right) (g .kind) (s .pre .0) (s .pre .1) overflowed
 
 pub begin-both-spec : {M : Type 1} → statement M
 begin-both-spec =

@@ -7,7 +7,7 @@ use Rattle.operation.proofs.begin.begin_logarithm.Statement.{statement}
 use Rattle.operation.proofs.begin.begin_logarithm.Tie as tie
 
 returns : tie.Need-returns
-returns c = let g = c .before .args in (small-base (g .limit) (g .l) (g .r) (c .if1 .taken), tt)
+returns c = let g = c .before .args in small-base (g .limit) (g .l) (g .r) (c .if1 .taken)
 
 dividing-requires : tie.Need-dividing-requires
 dividing-requires c κs = search needs
@@ -15,8 +15,7 @@ dividing-requires c κs = search needs
 returns-2 : tie.Need-returns-2
 returns-2 c =
     let g = c .before .before .args in
-    let b = c .dividing .ensures in
-    (b .0 ∙ begun-logarithm (g .limit) (g .l) (g .r) (c .before .if1 .left), b .1)
+    c .dividing .ensures ∙ begun-logarithm (g .limit) (g .l) (g .r) (c .before .if1 .left)
 
 pub begin-logarithm-spec : {M : Type 1} → statement M
 begin-logarithm-spec = tie.close (tie.spec returns dividing-requires returns-2)

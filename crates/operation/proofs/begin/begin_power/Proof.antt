@@ -17,9 +17,8 @@ powering-requires c κs = search needs
 returns : tie.Need-returns
 returns c =
     let g = c .before .before .args in
-    let b = c .powering .ensures in
     let one = ap (λ f. powering f (Fits (g .l)) (g .r)) (c .before .checked-of .ensures) in
-    (b .0 ∙ one ∙ begun-power (g .limit) (g .l) (g .r), b .1)
+    c .powering .ensures ∙ one ∙ begun-power (g .limit) (g .l) (g .r)
 
 pub begin-power-spec : {M : Type 1} → statement M
 begin-power-spec = tie.close (tie.spec checked-of-requires powering-requires returns)

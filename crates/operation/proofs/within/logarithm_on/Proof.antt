@@ -15,7 +15,7 @@ use Rattle.operation.proofs.within.logarithm_on.Tie as tie
 -- what is left of the allowance brings the logarithm from here as far as it brought it from the start
 abbrev Inv-loop : tie.InvT-loop
 Inv-loop from allowance base left₀ count₀ taken₀ left count taken =
-    Sound (InLogarithm (record { base = base; left = left; count = count }))
+    Sound (record { base = base; left = left; count = count })
     × ((M : ℕ) →
     goneOn M (allowance - taken) taken (inLogarithm base left count)
     ≡ goneOn M (allowance - from) from (inLogarithm base left₀ count₀))

@@ -1,24 +1,62 @@
 -- `machine::drive` meets its contract.
 -- Assumes nothing.
-use native.Mathlib.Omega.{arith}
+use mathlib.Core.Logic.{⊎-elim}
+use mathlib.Core.Path.{subst}
+use mathlib.Core.List.{[], _∷_}
 use Prim.Native.Nat.{_-_}
-use Rattle.recipe.proofs.Driving.{Drives, begins-driving, between-shown, Turned, turn}
-use Rattle.recipe.proofs.Driving.{refused-shown, within-shown, more-taken, drives-on, finished-shown}
+use native.Mathlib.Omega.{arith}
+use denote.Enum.Declared.{tagOf}
+use types.Run.{OneOf}
+use Rattle.steps.proofs.types.Phase as phases
+use Rattle.recipe.proofs.Driving.{Drives, begins-driving, at-item, entered-stands, refused-shown, Turned, turn}
+use Rattle.recipe.proofs.Driving.{drives-on, within-shown, finished-shown, stopped-shown}
 use borrow.Author.Needs.{needs}
 use Rattle.recipe.proofs.machine.drive.Statement.{statement}
 use Rattle.recipe.proofs.machine.drive.Tie as tie
 
 abbrev Inv-loop : tie.InvT-loop
-Inv-loop limit kinds numbers allowance hand₀ marks₀ n held₀ done₀ taken₀ hand marks held done taken =
-    Drives limit kinds numbers allowance hand marks held done taken
+Inv-loop limit kinds numbers allowance hand₀ marks₀ n state₀ hand marks state =
+    Drives limit kinds numbers allowance hand marks state
 
 abbrev μ-loop : tie.MeasureT-loop
-μ-loop limit kinds numbers allowance hand₀ marks₀ n held₀ done₀ taken₀ hand marks held done taken = allowance - taken
+μ-loop limit kinds numbers allowance hand₀ marks₀ n state₀ hand marks state = allowance - state .taken
 
--- what is known once an item has been advanced
-module _ (c : tie.After-advance Inv-loop μ-loop) where
+loop-holds : tie.Need-loop-holds Inv-loop μ-loop
+loop-holds c =
+    let s = c .before .before in
+    let g = s .args in
+    begins-driving (g .limit) (g .kinds .now) (g .numbers .now) (g .allowance) (g .hand .now) (g .marks .now)
+    (s .pre .0 .2) (s .pre .1 .0) (s .pre .1 .1)
+
+add-from : tie.Need-add-from Inv-loop μ-loop
+add-from c = search needs
+
+enter-requires : tie.Need-enter-requires Inv-loop μ-loop
+enter-requires c κs =
+    let i = c .before .before .before in
+    let l = i .before .before in
+    let s = l .before .before .before in
+    at-item (s .pre .0 .0) (l .loop .inv) (i .if1 .taken) (s .pre .0 .1)
+
+enum-known-entered : tie.Need-enum-known-entered Inv-loop μ-loop
+enum-known-entered c = search needs
+
+go-on-requires : tie.Need-go-on-requires Inv-loop μ-loop
+go-on-requires c κs =
+    let e = c .before .before .before .before .before in
+    let i = e .before .before .before .before in
+    let l = i .before .before in
+    let s = l .before .before .before in
+    entered-stands (s .pre .0 .0) (l .loop .inv) (i .if1 .taken) (e .enter .ensures)
+    (c .before .before .before .entered .given .1)
+
+-- what is known once the state has gone on
+module _ (c : tie.After-go-on Inv-loop μ-loop) where
+  abbrev after-enter : tie.After-enter Inv-loop μ-loop
+  after-enter = c .before .before .before .before .before .before
+
   abbrev head : tie.At-loop Inv-loop μ-loop
-  head = c .before .before .before .before
+  head = after-enter .before .before .before .before .before .before
 
   abbrev start : tie.Start Inv-loop μ-loop
   start = head .before .before .before
@@ -29,35 +67,16 @@ module _ (c : tie.After-advance Inv-loop μ-loop) where
       (start .args .kinds .now)
       (start .args .numbers .now)
       (start .args .allowance)
-      (head .loop .done)
-      (head .loop .taken)
-      (c .advance .last .1 .1 .1 .0)
-      (c .advance .last .1 .1 .1 .1 .0)
-      (c .advance .result)
-  turned = turn (start .pre .0 .0) (head .loop .inv) (c .advance .ensures)
+      (head .loop .state .taken)
+      (c .go-on .last .1 .0)
+      (c .go-on .last .1 .1 .0)
+      (c .go-on .result)
+  turned =
+      turn (start .pre .0 .0) (head .loop .inv) (after-enter .before .before .before .before .if1 .taken)
+      (after-enter .enter .ensures) (c .before .before .before .before .entered .given .1) (c .go-on .ensures)
 
-loop-holds : tie.Need-loop-holds Inv-loop μ-loop
-loop-holds c =
-    let s = c .before .before in
-    let g = s .args in
-    begins-driving (g .limit) (g .kinds .now) (g .numbers .now) (g .allowance) (g .hand .now) (g .marks .now)
-    (s .pre .0 .2) (s .pre .1 .0) (s .pre .1 .1)
-
-add-advance : tie.Need-add-advance Inv-loop μ-loop
-add-advance c = search needs
-
-advance-requires : tie.Need-advance-requires Inv-loop μ-loop
-advance-requires c κs =
-    let s = c .before .before .before .before .before .before in
-    let l = c .before .before .before .loop .inv in
-    let h = c .before .before .loop-test .taken in
-    record { same = s .pre .0 .0; more = l .more; allowed = omega arith; shown = l .shows; good = l .good }
-
-enum-known-now-held : tie.Need-enum-known-now-held Inv-loop μ-loop
-enum-known-now-held c = search needs
-
-add-done : tie.Need-add-done Inv-loop μ-loop
-add-done c = search needs
+enum-told : tie.Need-enum-told Inv-loop μ-loop
+enum-told c = search needs
 
 element-copy-out-value-of : tie.Need-element-copy-out-value-of Inv-loop μ-loop
 element-copy-out-value-of c = search needs
@@ -70,37 +89,42 @@ value-of-requires c κs = search needs
 
 returns : tie.Need-returns Inv-loop μ-loop
 returns c =
-    let d = c .before .before .before in
-    finished-shown (turned (d .before .before .before .before)) (d .before .before .now-held .given .1) (d .if1 .taken)
-    (c .value-of .ensures)
+    let i = c .before .before .before in
+    finished-shown (turned (i .before .before .before .before)) (i .if2 .taken) (c .value-of .ensures)
 
 loop-less : tie.Need-loop-less Inv-loop μ-loop
 loop-less c =
-    let h = c .before .before .before .before .before .before .before .loop-test .taken in
-    let m = more-taken (turned (c .before .before .before .before)) (c .before .before .now-held .given .1) in
+    let t = turned (c .before .before .before .before) in
+    let l = t .later in
+    let h = t .allowed in
     omega arith
 
 loop-again : tie.Need-loop-again Inv-loop μ-loop
-loop-again c =
-    drives-on (turned (c .before .before .before .before)) (c .before .before .now-held .given .1) (c .if1 .left)
-
-enum-known-phase : tie.Need-enum-known-phase Inv-loop μ-loop
-enum-known-phase c = search needs
+loop-again c = drives-on (turned (c .before .before .before .before)) (c .if2 .left)
 
 returns-2 : tie.Need-returns-2 Inv-loop μ-loop
-returns-2 c = within-shown (turned (c .before .before .before)) (c .before .phase .given .1)
+returns-2 c =
+    within-shown (turned (c .before))
+    (λ e.
+    let other = subst (λ p. OneOf (1 ∷ 2 ∷ []) (tagOf phases.the-type p)) e (c .match2 .keys2) in
+    ⊎-elim (λ z. omega arith) (λ z. omega arith) other)
 
 enum-known-refusal : tie.Need-enum-known-refusal Inv-loop μ-loop
 enum-known-refusal c = search needs
 
-add-t30 : tie.Need-add-t30 Inv-loop μ-loop
-add-t30 c = search needs
-
 returns-3 : tie.Need-returns-3 Inv-loop μ-loop
-returns-3 c = refused-shown (turned (c .before .before .before)) (c .before .refusal .given .1)
+returns-3 c =
+    let e = c .before .before .before in
+    let i = e .before .before .before .before in
+    let l = i .before .before in
+    let s = l .before .before .before in
+    refused-shown (s .pre .0 .0) (l .loop .inv) (i .if1 .taken) (e .enter .ensures) (c .before .refusal .given .1)
 
 returns-4 : tie.Need-returns-4 Inv-loop μ-loop
-returns-4 c = between-shown (c .before .before .before .before .pre .0 .0) (c .before .loop .inv) (c .loop-test .left)
+returns-4 c =
+    let l = c .before .before in
+    let s = l .before .before .before in
+    stopped-shown (s .pre .0 .0) (l .loop .inv) (c .if1 .left)
 
 pub drive-spec : {M : Type 1} → statement M
 drive-spec =
@@ -109,19 +133,18 @@ drive-spec =
     Inv-loop
     μ-loop
     loop-holds
-    add-advance
-    advance-requires
-    enum-known-now-held
-    add-done
+    add-from
+    enter-requires
+    enum-known-entered
+    go-on-requires
+    enum-told
     element-copy-out-value-of
     element-copy-out-value-of-2
     value-of-requires
     returns
     loop-less
     loop-again
-    enum-known-phase
     returns-2
     enum-known-refusal
-    add-t30
     returns-3
     returns-4)

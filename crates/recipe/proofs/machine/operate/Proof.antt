@@ -2,7 +2,8 @@
 -- Assumes nothing.
 use native.Mathlib.Omega.{arith}
 use Prim.Native.Nat.{_-_}
-use Rattle.recipe.proofs.Landing.{both-taken, operates}
+use Rattle.shape.specs.Items.{kindOf}
+use Rattle.recipe.proofs.Landing.{Taken, both-taken, room-left, value-operates, phase-operates, refusal-operates}
 use Rattle.recipe.proofs.Places.{shows-length, take-shows}
 use borrow.Author.Needs.{needs}
 use Rattle.recipe.proofs.machine.operate.Statement.{statement}
@@ -32,27 +33,73 @@ take-requires-2 c κs =
     let h = s .pre .3 .0 in
     (omega arith, l .0, l .1)
 
-sub-land : tie.Need-sub-land
-sub-land c = search needs
+begin-requires : tie.Need-begin-requires
+begin-requires c κs = search needs
 
-work-requires : tie.Need-work-requires
-work-requires c κs = search needs
+-- what is known once the operation is begun
+module _ (c : tie.After-begin) where
+  abbrev start : tie.Start
+  start = c .before .before .before .before .before .before .before
 
-land-requires : tie.Need-land-requires
-land-requires c κs =
-    let s = c .before .before .before .before .before .before .before .before .before in
-    let h = s .pre .3 .0 in
-    let t = c .before .before .before .before .before .before .take .ensures in
-    let u = c .before .before .before .take2 .ensures in
-    (both-taken (record { two = s .pre .2; shown = s .pre .3; right = t; left = u }), omega arith)
+  taken
+      : Taken
+      (start .args .held)
+      (start .args .hand .now)
+      (start .args .marks .now)
+      (c .before .before .before .before .take .last .0)
+      (c .before .before .before .before .take .last .1 .0)
+      (c .before .take2 .last .0)
+      (c .before .take2 .last .1 .0)
+      (c .before .take2 .result)
+      (c .before .before .before .before .take .result)
+  taken =
+      record {
+        two = start .pre .2;
+        shown = start .pre .3;
+        right = c .before .before .before .before .take .ensures;
+        left = c .before .take2 .ensures;
+      }
+
+enum-known-value : tie.Need-enum-known-value
+enum-known-value c = search needs
+
+sub-finish : tie.Need-sub-finish
+sub-finish c = search needs
+
+finish-requires : tie.Need-finish-requires
+finish-requires c κs =
+    let b = c .before .before .before .before .before in
+    (both-taken (taken b), room-left (taken b), start b .pre .4)
+
+enum-known-phase : tie.Need-enum-known-phase
+enum-known-phase c = search needs
+
+sub-t24 : tie.Need-sub-t24
+sub-t24 c = search needs
+
+enum-known-refusal : tie.Need-enum-known-refusal
+enum-known-refusal c = search needs
 
 returns : tie.Need-returns
 returns c =
-    let s = c .before .before .before .before .before .before .before .before .before .before in
-    let t = c .before .before .before .before .before .before .before .take .ensures in
-    let u = c .before .before .before .before .take2 .ensures in
-    operates (record { two = s .pre .2; shown = s .pre .3; right = t; left = u })
-    (record { allowed = s .pre .4; comes = c .before .work .ensures }) (c .land .ensures)
+    let b = c .before .before .before .before .before .before in
+    let g = start b .args in
+    value-operates (taken b) (g .limit) (g .from) (kindOf (g .kind)) (g .done) _ (start b .pre .4) (b .begin .ensures)
+    (c .before .before .before .before .value .given .1) (c .finish .ensures)
+
+returns-2 : tie.Need-returns-2
+returns-2 c =
+    let b = c .before .before .before in
+    let g = start b .args in
+    phase-operates (taken b) (g .limit) (g .from) (kindOf (g .kind)) (g .done) _ (start b .pre .4) (b .begin .ensures)
+    (c .before .phase .given .1)
+
+returns-3 : tie.Need-returns-3
+returns-3 c =
+    let b = c .before .before .before in
+    let g = start b .args in
+    refusal-operates (taken b) (g .limit) (g .from) (kindOf (g .kind)) (g .done) _ (start b .pre .4) (b .begin .ensures)
+    (c .before .refusal .given .1)
 
 pub operate-spec : {M : Type 1} → statement M
 operate-spec =
@@ -62,7 +109,13 @@ operate-spec =
     take-requires
     sub-take-2
     take-requires-2
-    sub-land
-    work-requires
-    land-requires
-    returns)
+    begin-requires
+    enum-known-value
+    sub-finish
+    finish-requires
+    enum-known-phase
+    sub-t24
+    enum-known-refusal
+    returns
+    returns-2
+    returns-3)

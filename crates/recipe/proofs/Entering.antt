@@ -1,28 +1,29 @@
--- The next item: the code begins it as the run does, and what is still to come after it stays well formed.
+-- The next item's first step: the code begins it as the run does, and what is still to come after it stays well formed.
 -- Assumes nothing.
 use mathlib.Core.Path.{_≡_, ap, sym, _∙_, subst}
 use mathlib.Core.List.{List, _∷_}
 use Prim.Native.Nat.{ℕ, suc, _-_, _≤_, _<_}
 use native.Mathlib.Decide.{decLt}
 use native.Mathlib.Omega.{arith}
-use lib.ListN.{getD, drop}
+use lib.ListN.{length, getD, drop}
 use Rattle.checked.specs.declared.types.Checked64.the-variants.{Fits}
 use Rattle.checked.specs.Value.{Value}
 use Rattle.shape.specs.Items.{Item, Kind, literal, operation, unknown, kindOf, itemOf, items}
 use Rattle.shape.specs.Shape.{faultOf, heldAfter, Good}
 use Rattle.shape.proofs.Codes.{kind-at, kind-operation, kind-unknown}
-use Rattle.shape.proofs.Items.{items-at}
+use Rattle.shape.proofs.Items.{items-at, length-items}
 use Rattle.shape.proofs.Shapes.{literal-good, operation-good, unknown-not-good}
 use Rattle.steps.specs.declared.types.Phase.the-variants.{Between}
 use Rattle.steps.specs.Steps as steps
-use Rattle.operation.specs.declared.types.Reached.the-variants as reached
-use Rattle.recipe.specs.declared.types.Advanced.{Advanced}
-use Rattle.recipe.specs.Machine.{rest, handOf, advancedOf, Lands, Operates, AtItem, Advances}
+use Rattle.recipe.specs.declared.types.Entered.{Entered}
+use Rattle.recipe.specs.declared.types.Entered.the-variants as entered
+use Rattle.recipe.specs.declared.types.State.{State}
+use Rattle.recipe.specs.Machine.{rest, handOf, Finishes, enteredOf, Operates, AtItem, Enters}
 use Rattle.recipe.proofs.Going.{step-leads, landed-placed}
+use Rattle.recipe.proofs.Landing.{finished-state, finished-stands}
 
 module _
-    {M a from : ℕ} {ks ns : List ℕ} {held d : ℕ} {hand marks : List ℕ}
-    (at : AtItem M a from ks ns held d hand marks)
+    {M : ℕ} {ks ns : List ℕ} {held d : ℕ} {hand marks : List ℕ} (at : AtItem M ks ns held d hand marks)
   where
     item : Item
     item = itemOf (getD ks d 0) (getD ns d 0)
@@ -65,55 +66,59 @@ module _
           | no h ↦ absurd (unknown-not-good M held (getD ns d 0) (good-as unknown (kind-unknown k (omega arith)) .0))
         ]
 
+    pub few : d < 256
+    few = let h = at .few in let m = at .more in omega arith
+
+    there : d < length (items ks ns)
+    there = let m = at .more in let e = length-items ks ns (at .same) in omega arith
+
     -- ---- the item
 
-    -- between items, with t steps taken
-    abbrev before : ℕ → steps.State
-    before t = steps.going t d (handOf held hand marks) Between (drop d (items ks ns))
-
     begins
-        : (t : ℕ) (hand' : List Value) (o : steps.Outcome) → from ≡ suc t →
+        : (a t : ℕ) (hand' : List Value) (o : steps.Outcome) → t < a →
         steps.beginning M t d (handOf held hand marks) (item .kind) item later ≡ steps.landed t d hand' item later o →
-        rest M a (before t) ≡ rest M a (steps.landed t d hand' item later o)
-    begins t hand' o n s =
-        let h = at .allowed in
+        rest M a (steps.going t d (handOf held hand marks) Between (drop d (items ks ns)))
+        ≡ rest M a (steps.landed t d hand' item later o)
+    begins a t hand' o h s =
         let H = handOf held hand marks in
         ap (λ xs. rest M a (steps.going t d H Between xs)) next
-        ∙ step-leads M a t d H hand' Between item later o (omega arith) s
+        ∙ step-leads M a t d H hand' Between item later o h s
 
-    module _ {hand' marks' : List ℕ} {r : Advanced} where
-      pub literal-advances
-          : getD ks d 0 ≡ 0 → Lands held hand marks hand' marks' (reached.Value (Fits (getD ns d 0)) from) r →
-          Advances M a from (items ks ns) held d hand marks hand' marks' r
+    module _ {from : ℕ} {hand' marks' : List ℕ} where
+      pub literal-enters
+          : {r : State} → getD ks d 0 ≡ 0 →
+          Finishes held d from (Fits (getD ns d 0)) hand marks hand' marks' r →
+          Enters M from (items ks ns) held d hand marks hand' marks' (entered.Going r)
       unfolding item later
-      literal-advances e landed =
-          let h = at .allowed in
-          record { leads = led; ready = landed .ready M a from d (items ks ns) (omega arith, h) (good-literal e .1) }
+      literal-enters {r} e f =
+          record { leads = led; ready = finished-stands f (items ks ns) M there (good-literal e .1) }
         where
           led
-              : (t : ℕ) → from ≡ suc t →
-              rest M a (before t) ≡ rest M a (advancedOf from d (items ks ns) hand' marks' r)
-          led t n =
+              : (a t : ℕ) → t < a → from ≡ suc t →
+              rest M a (steps.going t d (handOf held hand marks) Between (drop d (items ks ns)))
+              ≡ rest M a (enteredOf from d (items ks ns) hand' marks' (entered.Going r))
+          led a t h n =
               let H = handOf held hand marks in
               let o = steps.value (Fits (getD ns d 0)) in
-              begins t H o n (ap (λ κ. steps.beginning M t d H κ item later) (is-literal e))
-              ∙ ap (rest M a) (landed-placed t from d H item later o n)
-              ∙ ap (rest M a) (sym (landed .lands from d (items ks ns) item next))
+              begins a t H o h (ap (λ κ. steps.beginning M t d H κ item later) (is-literal e))
+              ∙ ap (rest M a) (landed-placed t from d H item later o n ∙ sym (finished-state f (items ks ns)))
 
-      pub operation-advances
-          : (getD ks d 0 ≡ 0 → ⊥) → Operates M a from (kindOf (getD ks d 0)) held hand marks hand' marks' r →
-          Advances M a from (items ks ns) held d hand marks hand' marks' r
+      pub operation-enters
+          : {r : Entered} → (getD ks d 0 ≡ 0 → ⊥) →
+          Operates M from (kindOf (getD ks d 0)) held d hand marks hand' marks' r →
+          Enters M from (items ks ns) held d hand marks hand' marks' r
       unfolding item later
-      operation-advances z operated =
-          record { leads = led; ready = operated .ready d (items ks ns) (good-operation z .3) }
+      operation-enters {r} z operated =
+          record { leads = led; ready = operated .ready (items ks ns) there (good-operation z .3) }
         where
           led
-              : (t : ℕ) → from ≡ suc t →
-              rest M a (before t) ≡ rest M a (advancedOf from d (items ks ns) hand' marks' r)
-          led t n =
+              : (a t : ℕ) → t < a → from ≡ suc t →
+              rest M a (steps.going t d (handOf held hand marks) Between (drop d (items ks ns)))
+              ≡ rest M a (enteredOf from d (items ks ns) hand' marks' r)
+          led a t h n =
               let g = good-operation z in
               let o = kind-operation (getD ks d 0) (g .0) (g .1) in
               let H = handOf held hand marks in
-              begins t (steps.under (steps.under H)) (steps.begun M (o .0) (steps.top (steps.under H)) (steps.top H)) n
+              begins a t (steps.under (steps.under H)) (steps.begun M (o .0) (steps.top (steps.under H)) (steps.top H)) h
               (ap (λ κ. steps.beginning M t d H κ item later) (o .1))
-              ∙ operated .leads t d (items ks ns) item (o .0) n next (o .1)
+              ∙ ap (rest M a) (operated .leads t (items ks ns) item (o .0) n next (o .1))

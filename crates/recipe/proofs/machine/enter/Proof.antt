@@ -1,9 +1,9 @@
--- `machine::advance` meets its contract.
+-- `machine::enter` meets its contract.
 -- Assumes nothing.
-use Rattle.recipe.proofs.Advancing.{good-literal, good-operation, literal-advances, operation-advances}
+use Rattle.recipe.proofs.Entering.{good-literal, good-operation, few, literal-enters, operation-enters}
 use borrow.Author.Needs.{needs}
-use Rattle.recipe.proofs.machine.advance.Statement.{statement}
-use Rattle.recipe.proofs.machine.advance.Tie as tie
+use Rattle.recipe.proofs.machine.enter.Statement.{statement}
+use Rattle.recipe.proofs.machine.enter.Tie as tie
 
 shared-slice-read-kind : tie.Need-shared-slice-read-kind
 shared-slice-read-kind c = search needs
@@ -14,35 +14,35 @@ mul-t16 c = search needs
 shared-slice-read-t18 : tie.Need-shared-slice-read-t18
 shared-slice-read-t18 c = search needs
 
-land-requires : tie.Need-land-requires
-land-requires c κs =
+finish-requires : tie.Need-finish-requires
+finish-requires c κs =
     let s = c .before .before .before .before .before .before .before in
-    (s .pre .shown, good-literal (s .pre) (c .before .before .before .if1 .taken) .0)
+    (s .pre .shown, good-literal (s .pre) (c .before .before .before .if1 .taken) .0, few (s .pre))
 
 returns : tie.Need-returns
 returns c =
     let s = c .before .before .before .before .before .before .before .before in
-    literal-advances (s .pre) (c .before .before .before .before .if1 .taken) (c .land .ensures)
+    literal-enters (s .pre) (c .before .before .before .before .if1 .taken) (c .finish .ensures)
 
 operate-requires : tie.Need-operate-requires
 operate-requires c κs =
     let s = c .before .before .before .before .before .before in
     let w = good-operation (s .pre) (c .before .before .if1 .left) in
-    (w .0, w .1, w .2, s .pre .shown, s .pre .allowed)
+    (w .0, w .1, w .2, s .pre .shown, few (s .pre))
 
 returns-2 : tie.Need-returns-2
 returns-2 c =
     let s = c .before .before .before .before .before .before .before in
-    operation-advances (s .pre) (c .before .before .before .if1 .left) (c .operate .ensures)
+    operation-enters (s .pre) (c .before .before .before .if1 .left) (c .operate .ensures)
 
-pub advance-spec : {M : Type 1} → statement M
-advance-spec =
+pub enter-spec : {M : Type 1} → statement M
+enter-spec =
     tie.close
     (tie.spec
     shared-slice-read-kind
     mul-t16
     shared-slice-read-t18
-    land-requires
+    finish-requires
     returns
     operate-requires
     returns-2)
