@@ -5,7 +5,7 @@ theorem is named on the pages that isn't there.
     check.py
 
 A function is written `crate::module::name`, a method `crate::Type::name`. A program has no public function, since
-nothing outside it calls one: its functions are `pub(crate)` or private. A row says under 'unique by' why no other
+nothing outside it calls one: its functions are `pub(crate)` or private. A row names under 'unique by' the theorem that no other
 answer meets the contract. Every must-fail edit of the crates must be named on the page too, and every edit that the
 page names must be there.
 
@@ -91,14 +91,14 @@ def cells_of(row):
 
 
 def row_faults(page):
-    """Which rows of functions don't say by what their answer is unique."""
+    """Which rows of functions name no theorem by which their answer is unique."""
     faults, column = [], None
     for number, row in enumerate(page.split("\n"), 1):
         cells = cells_of(row)
         if cells[0] == "function":
             column = cells.index("unique by") if "unique by" in cells else None
-        elif OF_FUNCTION.match(row) and (column is None or not cells[column]):
-            faults.append(f"docs/ENTRIES.md, line {number}: {cells[0]} has no 'unique by'")
+        elif OF_FUNCTION.match(row) and (column is None or not THEOREM.search(cells[column])):
+            faults.append(f"docs/ENTRIES.md, line {number}: {cells[0]} has no theorem under 'unique by'")
     return faults
 
 
@@ -154,12 +154,12 @@ def page_of(row):
 
 
 def row_tried(page):
-    """The check must see a row with nothing in that cell, and a table without the column."""
+    """The check must see a row without a theorem in that cell, and a table without the column."""
     rows = page.split("\n")
     head = next(row for row in rows if cells_of(row)[0] == "function")
     first = next(row for row in rows if OF_FUNCTION.match(row))
     cells = cells_of(first)
-    cells[cells_of(head).index("unique by")] = ""
+    cells[cells_of(head).index("unique by")] = "the value itself"
     emptied = page.replace(first, "| " + " | ".join(cells) + " |")
     return bool(row_faults(emptied) and row_faults(page.replace("| unique by |", "| so |")))
 

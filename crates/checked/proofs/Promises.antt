@@ -23,7 +23,7 @@ use Rattle.checked.proofs.Limit.{fits, over, product-overflowed-zero, p
 use Rattle.checked.proofs.Logarithms as logs
 use Rattle.checked.proofs.Standing.{standing, stands, sum-of-values, product-of-values, operation-stands, the-one}
 use Rattle.checked.proofs.Refused as refusals
-use Rattle.checked.proofs.Unique.{pair-unique}
+use Rattle.checked.proofs.Unique.{both-is}
 
 -- ---- the limit, and what a value stands for
 
@@ -84,7 +84,7 @@ both-given l r = refl
 -- and this is what its contract says, no more and no less
 pub both-in-numbers : (a b : Value) (x : Both) → (x ≡ bothOf a b) ↔ (pair x ≡ pairOf a b)
 both-in-numbers a b x =
-    let same = refusals.pair-of-both a b in (λ e. ap pair e ∙ same, λ e. pair-unique x (bothOf a b) (e ∙ sym same))
+    (λ e. ap pair e ∙ refusals.pair-of-both a b, both-is a b)
 
 -- ---- quotient, remainder, power, logarithm: the refusals
 

@@ -1,5 +1,5 @@
--- No two answers are the same in numbers: so a contract that gives an answer's numbers leaves one possible answer. Each type has a way back from its
--- numbers.
+-- No two answers are the same in numbers: so a contract that gives an answer's numbers leaves one possible answer. Each
+-- type has a way back from its numbers.
 -- Assumes nothing.
 use mathlib.Core.Path.{_≡_, refl, ap, sym, _∙_}
 use mathlib.Core.Bool.{false, cond}
@@ -19,9 +19,10 @@ use Rattle.checked.specs.declared.types.Option64.{Option64}
 use Rattle.checked.specs.declared.types.Option64.the-variants as o64
 use Rattle.checked.specs.declared.types.Both.{Both}
 use Rattle.checked.specs.declared.types.Both.the-variants as both
-use Rattle.checked.specs.Value.{Value, option}
+use Rattle.checked.specs.Value.{Value, option, bothOf}
 use Rattle.checked.specs.Paper.{Paper, paper, plain, numberOf}
-use Rattle.checked.specs.Pair.{Pair, pair}
+use Rattle.checked.specs.Pair.{Pair, pair, pairOf}
+use Rattle.checked.proofs.Refused.{pair-of-both}
 
 -- what has a way back is determined by where it goes
 pub one : {A B : Type 0} (f : A → B) (back : B → A) → ((x : A) → back (f x) ≡ x) → (x y : A) → f x ≡ f y → x ≡ y
@@ -140,3 +141,7 @@ pub pair-unique : (x y : Both) → pair x ≡ pair y → x ≡ y
 pair-unique =
     one pair (λ p. cond (eqb (p .code) 0) (both.Numbers (p .left) (p .right)) both.Overflowed)
     (elim [ both.Numbers l r ↦ refl | both.Overflowed ↦ refl ])
+
+-- so an answer is `bothOf` by its numbers
+pub both-is : (a b : Value) {x : Both} → pair x ≡ pairOf a b → x ≡ bothOf a b
+both-is a b {x = x} e = pair-unique x (bothOf a b) (e ∙ sym (pair-of-both a b))

@@ -67,7 +67,8 @@ abbrev pub Within : ℕ → Value → Type 0
 Within M (Fits n) = n ≤ M
 Within M Overflowed = Unit {0}
 
--- a value of a type C, whose values are seen as values over M: it is a number from 0 to M, or the note that it is larger
+-- a value of a type C, whose values are seen as values over M: it is a number from 0 to M, or the note that it is
+-- larger
 abbrev pub Typed : ℕ → {C : Type 0} → (C → Value) → Type 0
 Typed M {C} value = (c : C) × Within M (value c)
 

@@ -9,6 +9,7 @@ ghost use Prim.Native.Nat.{ℕ, _+_, _*_, _^_, _<_};
 ghost use Rattle.whole.specs.logarithm.{log-of};
 ghost use Rattle.checked.specs.declared.types.Checked64.the-variants.{Fits, Overflowed};
 ghost use Rattle.checked.specs.Value.{checkedOf, sumOf, productOf, bothOf};
+ghost use Rattle.checked.specs.Pair.{pair, pairOf};
 ghost use Rattle.checked.specs.Turns.{Turned};
 ghost use Rattle.checked.specs.Paper.{paper, refused, quotientOf, remainderOf, powerOf, logarithmOf, dividedBy, leftBy, logOf};
 
@@ -232,7 +233,7 @@ fn times_overflowed(a: Checked64) -> Checked64
 
 // Both numbers, where both fit.
 pub fn both(a: Checked64, b: Checked64) -> Both
-    ensures { λ r. ⌜ r ≡ bothOf a b ⌝ }
+    ensures { λ r. ⌜ pair r ≡ pairOf a b ⌝ }
 {
     match a {
         Checked64::Fits(m) => beside(m, b),

@@ -13,7 +13,8 @@ use borrow.Author.Tests.{eq-eqb, ne-eqb}
 use Rattle.places.specs.Faults.{FirstFault, NoFaultBefore}
 use Rattle.places.proofs.Faults.{walk, faulty-at, faultless}
 use Rattle.shape.specs.Items.{Operation, Kind, literal, operation, unknown, Item}
-use Rattle.meaning.specs.Meaning.{Meant, number, failed, refusal, refusalOn, top, under, handOn, meaningFrom, meaning}
+use Rattle.meaning.specs.Meaning.{refusal, top, under, refusalOn, handOn}
+use Rattle.meaning.specs.Meaning.{Meant, number, failed, meaningFrom, meaning}
 use Rattle.meaning.specs.Faults.{handAfter, refusalHere, refusalOf, FirstRefusal, NoRefusal}
 use Rattle.meaning.proofs.Refusals.{row, passes, overflowed, by-zero, small-base}
 
@@ -23,11 +24,14 @@ module _ (M i : ℕ) (hand : List ℕ) (x : Item) (xs : List Item) where
   by-test : Bool → Meant
   by-test t = elim t [ true ↦ meaningFrom M (suc i) (handOn hand x) xs | false ↦ failed (refusalOn M hand (x .kind)) i ]
 
-  item-passes : refusalOn M hand (x .kind) ≡ 0 → meaningFrom M i hand (x ∷ xs) ≡ meaningFrom M (suc i) (handOn hand x) xs
+  item-passes
+      : refusalOn M hand (x .kind) ≡ 0 → meaningFrom M i hand (x ∷ xs) ≡ meaningFrom M (suc i) (handOn hand x) xs
   unfolding meaningFrom by-test
   item-passes e = ap by-test (eq-eqb (refusalOn M hand (x .kind)) 0 e)
 
-  item-fails : (refusalOn M hand (x .kind) ≡ 0 → ⊥) → meaningFrom M i hand (x ∷ xs) ≡ failed (refusalOn M hand (x .kind)) i
+  item-fails
+      : (refusalOn M hand (x .kind) ≡ 0 → ⊥) →
+      meaningFrom M i hand (x ∷ xs) ≡ failed (refusalOn M hand (x .kind)) i
   unfolding meaningFrom by-test
   item-fails n = ap by-test (ne-eqb (refusalOn M hand (x .kind)) 0 n)
 
@@ -37,7 +41,8 @@ at-end M i hand = refl
 
 -- the first refusal is the answer
 fails-first
-    : (M i : ℕ) (hand : List ℕ) (xs : List Item) (c p : ℕ) → (c ≡ 0 → ⊥) → FirstFault (refusalOf M hand xs) (length xs) c p →
+    : (M i : ℕ) (hand : List ℕ) (xs : List Item) (c p : ℕ) → (c ≡ 0 → ⊥) →
+    FirstFault (refusalOf M hand xs) (length xs) c p →
     meaningFrom M i hand xs ≡ failed c (i + p)
 fails-first M i hand [] c p n f = absurd (not-suc-le-zero (f .0))
 fails-first M i hand (x ∷ xs) c zero n f =

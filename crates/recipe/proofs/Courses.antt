@@ -90,7 +90,8 @@ module _ (W : ℕ) (ks ns : List ℕ) (k : ℕ) where
 
   pub data Course : Type 0 where
     ill-formed
-        : (c j : ℕ) → 5 ≤ c → c ≤ 13 → shapeOf W ks ns ≡ refused c j → runOf W ks ns k ≡ ended (refusedAt c j) 0 → Course
+        : (c j : ℕ) → 5 ≤ c → c ≤ 13 → shapeOf W ks ns ≡ refused c j → runOf W ks ns k ≡ ended (refusedAt c j) 0 →
+        Course
     short : WellFormed W ks ns → k < countOf W ks ns → StopsAt W ks ns k → Course
     enough
         : WellFormed W ks ns → countOf W ks ns ≤ k → runOf W ks ns k ≡ ended (answerMeant W ks ns) (countOf W ks ns) →
@@ -115,7 +116,8 @@ module _ (W : ℕ) (ks ns : List ℕ) (k : ℕ) where
     over : (a : Paper) (t : ℕ) → runOf W ks ns k ≡ ended a t → View
     going-on
         : (d : ℕ) (hand : List Value) (p : Phase) (rest : List Item) → Good (limitOf W) 0 (items ks ns) →
-        ShowsMeaning (limitOf W) (items ks ns) (steps.going k d hand p rest) → runOf W ks ns k ≡ stopped k d hand p → View
+        ShowsMeaning (limitOf W) (items ks ns) (steps.going k d hand p rest) → runOf W ks ns k ≡ stopped k d hand p →
+        View
 
   pub view : View
   view =

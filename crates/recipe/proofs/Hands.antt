@@ -41,7 +41,8 @@ zeros-at (suc n) (suc j) = zeros-at n j
 unused-zero : (f : Value → ℕ) (hand : List Value) (i : ℕ) → length hand ≤ i → getD (places f hand) i 0 ≡ 0
 unused-zero f hand i h =
     let e : i ≡ length hand + (i - length hand) = omega arith in
-    laid-get f hand (replicate (32 - length hand) 0) i (i - length hand) e ∙ zeros-at (32 - length hand) (i - length hand)
+    laid-get f hand (replicate (32 - length hand) 0) i (i - length hand) e
+    ∙ zeros-at (32 - length hand) (i - length hand)
 
 pub shows-hand : (hand : List Value) → length hand ≤ 32 → ShowsHand hand (places markOf hand) (places numberIn hand)
 shows-hand hand h =

@@ -37,7 +37,8 @@ pub use Rattle.recipe.proofs.Examples.{small-runs, small-stops}
 known-bounds : (W : ℕ) → knownWidth W ≡ true → (0 < W) × (W ≤ 64)
 known-bounds W w =
     ⊎-elim (λ e. (omega arith, omega arith))
-    (⊎-elim (λ e. (omega arith, omega arith)) (⊎-elim (λ e. (omega arith, omega arith)) (λ e. (omega arith, omega arith))))
+    (⊎-elim (λ e. (omega arith, omega arith))
+    (⊎-elim (λ e. (omega arith, omega arith)) (λ e. (omega arith, omega arith))))
     (known-widths W w)
 
 module _ (W : ℕ) (ks ns : List ℕ) (well : WellFormed W ks ns) where

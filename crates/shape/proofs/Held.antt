@@ -14,7 +14,9 @@ use Rattle.shape.proofs.Shapes.{literal-good, operation-good, unknown-n
 
 -- ---- counted
 
-item-counted : (M held : ℕ) (k : Kind) (n : ℕ) → faultOf M held k n ≡ 0 → heldAfter held k + operations k ≡ held + literals k
+item-counted
+    : (M held : ℕ) (k : Kind) (n : ℕ) → faultOf M held k n ≡ 0 →
+    heldAfter held k + operations k ≡ held + literals k
 item-counted M held literal n e = omega arith
 item-counted M held (operation o) n e = let h = operation-good held n e .1 in omega arith
 item-counted M held unknown n e = absurd (unknown-not-good M held n e)

@@ -37,8 +37,8 @@ AtWork M n (InPower p) =
 AtWork M n (InLogarithm q) =
     (1 < q .base) × (q .base ≤ q .left) × (q .left ≤ M) × (q .count + log-of (q .base) (q .left) ≡ n) × (n ≤ M)
 
--- between items the hand is the meaning's before the item; within one it is the meaning's after the item once the result
--- is put on it
+-- between items the hand is the meaning's before the item; within one it is the meaning's after the item once the
+-- result is put on it
 abbrev pub OnHand : ℕ → List Value → Phase → List ℕ → List ℕ → Type 0
 OnHand M hand Between before then = hand ≡ valuesOf M before
 OnHand M hand (InPower p) before then =

@@ -1,8 +1,11 @@
 -- `limited::both` meets its contract.
 -- Assumes nothing.
+use mathlib.Core.Path.{_∙_, ap}
 use borrow.Author.Needs.{needs}
-use Rattle.checked.specs.Value.{bothOf}
+use Rattle.checked.specs.declared.types.Checked64.the-variants.{Fits}
+use Rattle.checked.specs.Pair.{pair, pairOf}
 use Rattle.checked.proofs.Arms.{at}
+use Rattle.checked.proofs.Refused.{pair-of-both}
 use Rattle.checked.proofs.limited.both.Statement.{statement}
 use Rattle.checked.proofs.limited.both.Tie as tie
 
@@ -16,7 +19,10 @@ enum-told : tie.Need-enum-told
 enum-told c = search needs
 
 returns : tie.Need-returns
-returns c = let g = c .before .before .before .before .args in at (λ v. bothOf v (g .b)) (c .beside .ensures) (c .before .before .a .given .1)
+returns c =
+    let g = c .before .before .before .before .args in
+    at (λ v. pairOf v (g .b)) (ap pair (c .beside .ensures) ∙ pair-of-both (Fits (c .before .before .a .given .0 .0)) (g .b))
+    (c .before .before .a .given .1)
 
 returns-2 : tie.Need-returns-2
 returns-2 c = search needs

@@ -3,6 +3,7 @@
 use mathlib.Core.Path.{sym, _∙_}
 use Rattle.checked.specs.Paper.{onBoth, logOf}
 use Rattle.checked.proofs.Arms.{at}
+use Rattle.checked.proofs.Unique.{both-is}
 use borrow.Author.Needs.{needs}
 use Rattle.checked.proofs.limited.logarithm.Statement.{statement}
 use Rattle.checked.proofs.limited.logarithm.Tie as tie
@@ -23,10 +24,15 @@ overflowed-operand-requires : tie.Need-overflowed-operand-requires
 overflowed-operand-requires c κs = search needs
 
 returns : tie.Need-returns
-returns c = at (onBoth logOf) (c .checked-log .ensures) (sym (c .before .before .before .before .both .ensures) ∙ c .before .before .m .given .1)
+returns c =
+    let g = c .before .before .before .before .before .args in
+    at (onBoth logOf) (c .checked-log .ensures) (sym (both-is (g .a) (g .b) (c .before .before .before .before .both .ensures)) ∙ c .before .before .m .given .1)
 
 returns-2 : tie.Need-returns-2
-returns-2 c = at (onBoth logOf) (c .overflowed-operand .ensures) (sym (c .before .before .before .both .ensures) ∙ c .before .enum-told .given .1)
+returns-2 c =
+    let g = c .before .before .before .before .args in
+    at (onBoth logOf) (c .overflowed-operand .ensures)
+    (sym (both-is (g .a) (g .b) (c .before .before .before .both .ensures)) ∙ c .before .enum-told .given .1)
 
 pub logarithm-spec : {M : Type 1} → statement M
 logarithm-spec =

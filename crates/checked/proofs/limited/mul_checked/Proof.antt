@@ -2,8 +2,9 @@
 -- Assumes nothing.
 use mathlib.Core.Path.{ap₂, sym, _∙_}
 use Rattle.checked.specs.Value.{productOf}
-use Rattle.checked.proofs.BothFit.{both-are}
 use borrow.Author.Needs.{needs}
+use Rattle.checked.proofs.BothFit.{both-are}
+use Rattle.checked.proofs.Unique.{both-is}
 use Rattle.checked.proofs.limited.mul_checked.Statement.{statement}
 use Rattle.checked.proofs.limited.mul_checked.Tie as tie
 
@@ -23,7 +24,12 @@ mul-apart-requires : tie.Need-mul-apart-requires
 mul-apart-requires c κs = search needs
 
 returns : tie.Need-returns
-returns c = let g = c .before .before .before .before .before .args in let v = c .before .before .m .given in let e = both-are (g .a) (g .b) (v .0 .0) (v .0 .1 .0) (sym (c .before .before .before .before .both .ensures) ∙ v .1) in c .checked-mul .ensures ∙ ap₂ (productOf (g .limit)) (sym (e .0)) (sym (e .1))
+returns c =
+    let g = c .before .before .before .before .before .args in
+    let v = c .before .before .m .given in
+    let told = sym (both-is (g .a) (g .b) (c .before .before .before .before .both .ensures)) ∙ v .1 in
+    let e = both-are (g .a) (g .b) (v .0 .0) (v .0 .1 .0) told in
+    c .checked-mul .ensures ∙ ap₂ (productOf (g .limit)) (sym (e .0)) (sym (e .1))
 
 returns-2 : tie.Need-returns-2
 returns-2 c = search needs

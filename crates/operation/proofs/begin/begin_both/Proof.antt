@@ -1,8 +1,9 @@
 -- `begin::begin_both` meets its contract.
 -- Assumes nothing.
-use Rattle.operation.proofs.Outcomes.{fitting-begins, overflowed-begins}
 use mathlib.Core.Path.{_∙_, sym}
 use borrow.Author.Needs.{needs}
+use Rattle.checked.proofs.Unique.{both-is}
+use Rattle.operation.proofs.Outcomes.{fitting-begins, overflowed-begins}
 use Rattle.operation.proofs.begin.begin_both.Statement.{statement}
 use Rattle.operation.proofs.begin.begin_both.Tie as tie
 
@@ -22,14 +23,15 @@ returns : tie.Need-returns
 returns c =
     let g = c .before .before .before .before .before .args in
     let v = c .before .before .l .given in
-    let fit = sym (c .before .before .before .before .both .ensures) ∙ v .1 in
+    let fit = sym (both-is (g .left) (g .right) (c .before .before .before .before .both .ensures)) ∙ v .1 in
     fitting-begins (g .limit) (g .left) (g .right) (g .kind) (v .0 .0) (v .0 .1 .0) fit (c .begin-fitting .ensures)
 
 returns-2 : tie.Need-returns-2
 returns-2 c =
     let s = c .before .before .before in
     let g = s .args in
-    let overflowed = sym (c .before .before .both .ensures) ∙ c .enum-told .given .1 in
+    let told = both-is (g .left) (g .right) (c .before .before .both .ensures) in
+    let overflowed = sym told ∙ c .enum-told .given .1 in
     overflowed-begins (g .limit) (g .left) (g .right) (g .kind) (s .pre .0) (s .pre .1) overflowed
 
 pub begin-both-spec : {M : Type 1} → statement M
