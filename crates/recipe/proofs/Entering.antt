@@ -119,6 +119,7 @@ module _
               let g = good-operation z in
               let o = kind-operation (getD ks d 0) (g .0) (g .1) in
               let H = handOf held hand marks in
-              begins a t (steps.under (steps.under H)) (steps.begun M (o .0) (steps.top (steps.under H)) (steps.top H)) h
+              begins a t (steps.under (steps.under H))
+              (steps.begun M (o .0) (steps.top (steps.under H)) (steps.top H)) h
               (ap (λ κ. steps.beginning M t d H κ item later) (o .1))
               ∙ ap (rest M a) (operated .leads t (items ks ns) item (o .0) n next (o .1))

@@ -18,7 +18,7 @@ use Rattle.operation.specs.declared.types.Reached.the-variants as reached
 use Rattle.operation.specs.Work.{reachOf, workOf}
 use Rattle.operation.proofs.Sound.{sound-works, sound-goes}
 use Rattle.recipe.specs.declared.types.State.{State}
-use Rattle.recipe.specs.Machine.{handOf, Shows, between, AtWork, Ahead, Stands, Rests, rest, placedAs, Kept}
+use Rattle.recipe.specs.Machine.{handOf, Shows, between, WithinItem, Ahead, Stands, Rests, rest, placedAs, Kept}
 use Rattle.recipe.specs.Machine.{Finishes, Goes}
 use Rattle.recipe.proofs.Going.{GoesOn, goes-on}
 
@@ -31,7 +31,7 @@ itemAt zs d = getD zs d (itemOf 0 0)
 -- an operation at work takes the run's own steps: after t of them, and as far as the allowance a brings it
 module _
     (M a : ℕ) (zs : List Item) (held d t : ℕ) (p : Phase) (w : Reached) (hand : List Value)
-    (at : AtWork M zs held d p) (allowed : t ≤ a) (comes : reachOf w ≡ workOf M p t a)
+    (at : WithinItem M zs held d p) (allowed : t ≤ a) (comes : reachOf w ≡ workOf M p t a)
   where
     goes : GoesOn M a t (steps.within p) (reachOf w)
     goes =
@@ -64,7 +64,7 @@ Valued (steps.fails code) = ⊥
 -- what has come to its value was at work
 at-work
     : (M a : ℕ) (zs : List Item) (held d t : ℕ) (p : Phase) (w : Reached) → Ahead M zs held d p →
-    reachOf w ≡ workOf M p t a → (v : Value) (n : ℕ) → w ≡ reached.Value v n → AtWork M zs held d p
+    reachOf w ≡ workOf M p t a → (v : Value) (n : ℕ) → w ≡ reached.Value v n → WithinItem M zs held d p
 unfolding Valued
 at-work M a zs held d t Between w h c v n e = absurd (subst (λ w. Valued (w .outcome)) (sym (ap reachOf e) ∙ c) tt)
 at-work M a zs held d t (InPower p) w h c v n e = h
@@ -87,7 +87,7 @@ StillIn M a zs held d t p hand p' n =
 
 spent
     : (M a : ℕ) (zs : List Item) (held d t : ℕ) (p : Phase) (w : Reached) (hand : List Value) →
-    AtWork M zs held d p → t ≤ a → reachOf w ≡ workOf M p t a → (p' : Phase) (n : ℕ) → w ≡ reached.Within p' n →
+    WithinItem M zs held d p → t ≤ a → reachOf w ≡ workOf M p t a → (p' : Phase) (n : ℕ) → w ≡ reached.Within p' n →
     StillIn M a zs held d t p hand p' n
 spent M a zs held d t p w hand at h c p' n e =
     let k = kept M a zs held d t p w hand at h c (reached.Within p' n) e in (
@@ -122,7 +122,7 @@ module _
     (comes : reachOf w ≡ workOf M (s .phase) (s .taken) a)
   where
     module _ {v : Value} {n : ℕ} (e : w ≡ reached.Value v n) {zs : List Item} (stands : Stands M zs hand marks s) where
-      at : AtWork M zs (s .held) (s .done) (s .phase)
+      at : WithinItem M zs (s .held) (s .done) (s .phase)
       at = at-work M a zs (s .held) (s .done) (s .taken) (s .phase) w (stands .ahead) comes v n e
 
       pub has-room : Shows (s .held) hand marks × (s .held < 32) × (s .done < 256)

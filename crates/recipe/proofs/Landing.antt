@@ -23,7 +23,7 @@ use Rattle.recipe.specs.declared.types.Entered.{Entered}
 use Rattle.recipe.specs.declared.types.Entered.the-variants as entered
 use Rattle.recipe.specs.declared.types.State.{State}
 use Rattle.recipe.specs.Run.{markOf, numberIn}
-use Rattle.recipe.specs.Machine.{valueOf, handOf, Shows, stateOf, between, AtWork, Ahead, Stands, placed}
+use Rattle.recipe.specs.Machine.{valueOf, handOf, Shows, stateOf, between, WithinItem, Ahead, Stands, placed}
 use Rattle.recipe.specs.Machine.{Finishes, enteredOf, Ready, Operates}
 use Rattle.recipe.proofs.Places.{put-shows, take-shows}
 use Rattle.recipe.proofs.Going.{landed-placed}
@@ -80,7 +80,7 @@ taken-from held at hand marks hand' marks' v e s (is, (p, q)) =
 
 -- nothing is wrong in a phase that an operation has entered
 entered-ahead
-    : (M : ℕ) (zs : List Item) (held d : ℕ) (p : Phase) → AtWork M zs held d p → Ahead M zs held d p
+    : (M : ℕ) (zs : List Item) (held d : ℕ) (p : Phase) → WithinItem M zs held d p → Ahead M zs held d p
 entered-ahead M zs held d Between w = absurd (sound-works Between (w .works))
 entered-ahead M zs held d (InPower p) w = w
 entered-ahead M zs held d (InLogarithm q) w = w

@@ -16,7 +16,9 @@ laid-set : (f : Value → ℕ) (hand : List Value) (rest : List ℕ) (i j x : �
 laid-set f [] rest i j x e = let p : i ≡ j = omega arith in ap (λ k. set rest k x) p
 laid-set f (v ∷ hand) rest i j x e = laid-set f hand (f v ∷ rest) i (suc j) x (omega arith)
 
-pub laid-get : (f : Value → ℕ) (hand : List Value) (rest : List ℕ) (i j : ℕ) → i ≡ length hand + j → getD (laid f hand rest) i 0 ≡ getD rest j 0
+pub laid-get
+    : (f : Value → ℕ) (hand : List Value) (rest : List ℕ) (i j : ℕ) → i ≡ length hand + j →
+    getD (laid f hand rest) i 0 ≡ getD rest j 0
 laid-get f [] rest i j e = let p : i ≡ j = omega arith in ap (λ k. getD rest k 0) p
 laid-get f (v ∷ hand) rest i j e = laid-get f hand (f v ∷ rest) i (suc j) (omega arith)
 

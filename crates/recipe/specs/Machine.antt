@@ -37,7 +37,8 @@ handOf (suc k) numbers marks = valueOf (getD numbers k 0) (getD marks k 0) ∷ h
 -- the places show just these values
 abbrev pub Shows : ℕ → List ℕ → List ℕ → Type 0
 Shows held numbers marks =
-    let hand = handOf held numbers marks in (held ≤ mostOnHand) × (numbers ≡ places numberIn hand) × (marks ≡ places markOf hand)
+    let hand = handOf held numbers marks in
+    (held ≤ mostOnHand) × (numbers ≡ places numberIn hand) × (marks ≡ places markOf hand)
 
 -- ---- the state, with the recipe's items zs and the hand's numbers and marks
 
@@ -48,7 +49,7 @@ abbrev pub between : (held done taken : ℕ) → State
 between held done taken = record { held = held; done = done; taken = taken; phase = Between }
 
 -- an operation is at work in this phase: there is room for its value, and nothing is wrong with what comes after it
-pub record AtWork (M : ℕ) (zs : List Item) (held d : ℕ) (p : Phase) : Type 0 where
+pub record WithinItem (M : ℕ) (zs : List Item) (held d : ℕ) (p : Phase) : Type 0 where
   pub works : sound p ≡ true
   pub room : held < mostOnHand
   pub few : d < mostItems
@@ -58,8 +59,8 @@ pub record AtWork (M : ℕ) (zs : List Item) (held d : ℕ) (p : Phase) : Type 0
 -- nothing is wrong with what is still to come, in this phase
 abbrev pub Ahead : ℕ → List Item → ℕ → ℕ → Phase → Type 0
 Ahead M zs held d Between = (d ≤ length zs) × Good M held (drop d zs)
-Ahead M zs held d (InPower p) = AtWork M zs held d (InPower p)
-Ahead M zs held d (InLogarithm q) = AtWork M zs held d (InLogarithm q)
+Ahead M zs held d (InPower p) = WithinItem M zs held d (InPower p)
+Ahead M zs held d (InLogarithm q) = WithinItem M zs held d (InLogarithm q)
 
 -- after an item's first step
 pub record Stands (M : ℕ) (zs : List Item) (hand marks : List ℕ) (s : State) : Type 0 where
@@ -159,4 +160,11 @@ abbrev pub drivenOf : List ℕ → List ℕ → Driven → Shown
 drivenOf hand marks (driven.Finished v t) = ended (given v) t
 drivenOf hand marks (driven.Refused r i t) = ended (refusedAt (numberOf r) i) t
 drivenOf hand marks (driven.Stopped s) =
-    record { answer = refusedAt 20 (s .done); steps = s .taken; done = s .done; marks = marks; numbers = hand; phase = phaseNumbers (s .phase) }
+    record {
+      answer = refusedAt 20 (s .done);
+      steps = s .taken;
+      done = s .done;
+      marks = marks;
+      numbers = hand;
+      phase = phaseNumbers (s .phase);
+    }

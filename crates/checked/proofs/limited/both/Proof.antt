@@ -21,8 +21,8 @@ enum-told c = search needs
 returns : tie.Need-returns
 returns c =
     let g = c .before .before .before .before .args in
-    at (λ v. pairOf v (g .b)) (ap pair (c .beside .ensures) ∙ pair-of-both (Fits (c .before .before .a .given .0 .0)) (g .b))
-    (c .before .before .a .given .1)
+    let left = c .before .before .a .given in
+    at (λ v. pairOf v (g .b)) (ap pair (c .beside .ensures) ∙ pair-of-both (Fits (left .0 .0)) (g .b)) (left .1)
 
 returns-2 : tie.Need-returns-2
 returns-2 c = search needs

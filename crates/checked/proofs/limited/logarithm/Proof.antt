@@ -26,7 +26,8 @@ overflowed-operand-requires c κs = search needs
 returns : tie.Need-returns
 returns c =
     let g = c .before .before .before .before .before .args in
-    at (onBoth logOf) (c .checked-log .ensures) (sym (both-is (g .a) (g .b) (c .before .before .before .before .both .ensures)) ∙ c .before .before .m .given .1)
+    at (onBoth logOf) (c .checked-log .ensures)
+    (sym (both-is (g .a) (g .b) (c .before .before .before .before .both .ensures)) ∙ c .before .before .m .given .1)
 
 returns-2 : tie.Need-returns-2
 returns-2 c =
