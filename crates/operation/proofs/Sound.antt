@@ -32,7 +32,8 @@ powering-sound first second e = by-test (eqb e 0)
   where
     by-test
         : (t : Bool) →
-        SoundOutcome (cond t (value first) (within (InPower (record { first = first; second = second; exponent = e }))))
+        SoundOutcome
+        (cond t (value first) (within (InPower (record { first = first; second = second; exponent = e }))))
     by-test true = tt
     by-test false = refl
 
@@ -127,7 +128,8 @@ module _ (M t a : ℕ) where
     pub ended-stays : q .left < q .base → reach (within (InLogarithm q)) t ≡ workOf M (InLogarithm q) t a
     ended-stays h = unsound-stays (second-fails base-holds count-holds (lt-leb (q .base) (q .left) h))
 
-    pub counted-stays : limitOf 64 - q .left < q .count → reach (within (InLogarithm q)) t ≡ workOf M (InLogarithm q) t a
+    pub counted-stays
+        : limitOf 64 - q .left < q .count → reach (within (InLogarithm q)) t ≡ workOf M (InLogarithm q) t a
     counted-stays h = unsound-stays (third-fails base-holds left-holds (lt-leb (q .count) (limitOf 64 - q .left) h))
 
     -- or passes them all

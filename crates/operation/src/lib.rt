@@ -1,4 +1,5 @@
-// An operation of a recipe: `begin::begin` is its first step, `work::work` its further steps, and `within` has their parts.
+// An operation of a recipe: `begin::begin` is its first step, `work::work` its further steps, and `within` has their
+// parts.
 pub mod begin;
 pub mod types;
 pub mod within;

@@ -10,8 +10,8 @@ pub enum Outcome {
     Refused(Refusal),
 }
 
-// How far an allowance brings an operation from a phase on, and after how many of the run's steps: to its value, or to a
-// phase where the allowance is spent.
+// How far an allowance brings an operation from a phase on, and after how many of the run's steps: to its value, or to
+// a phase where the allowance is spent.
 pub enum Reached {
     Value(Checked64, u64),
     Within(Phase, u64),

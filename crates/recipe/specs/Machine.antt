@@ -37,7 +37,8 @@ handOf (suc k) numbers marks = valueOf (getD numbers k 0) (getD marks k 0) ∷ h
 -- the places show just these values
 abbrev pub Shows : ℕ → List ℕ → List ℕ → Type 0
 Shows held numbers marks =
-    let hand = handOf held numbers marks in (held ≤ mostOnHand) × (numbers ≡ places numberIn hand) × (marks ≡ places markOf hand)
+    let hand = handOf held numbers marks in
+    (held ≤ mostOnHand) × (numbers ≡ places numberIn hand) × (marks ≡ places markOf hand)
 
 -- ---- the state, with the recipe's items zs and the hand's numbers and marks
 
@@ -159,4 +160,11 @@ abbrev pub drivenOf : List ℕ → List ℕ → Driven → Shown
 drivenOf hand marks (driven.Finished v t) = ended (given v) t
 drivenOf hand marks (driven.Refused r i t) = ended (refusedAt (numberOf r) i) t
 drivenOf hand marks (driven.Stopped s) =
-    record { answer = refusedAt 20 (s .done); steps = s .taken; done = s .done; marks = marks; numbers = hand; phase = phaseNumbers (s .phase) }
+    record {
+      answer = refusedAt 20 (s .done);
+      steps = s .taken;
+      done = s .done;
+      marks = marks;
+      numbers = hand;
+      phase = phaseNumbers (s .phase);
+    }

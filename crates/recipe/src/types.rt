@@ -20,7 +20,8 @@ pub struct Run {
     pub phase: Phase,
 }
 
-// A run's state beside its hand: how many values are on hand, how many items are wholly done, the steps taken, and the phase.
+// A run's state beside its hand: how many values are on hand, how many items are wholly done, the steps taken, and the
+// phase.
 pub struct State {
     pub held: usize,
     pub done: usize,
@@ -34,7 +35,8 @@ pub enum Entered {
     Refused(Refusal),
 }
 
-// How far an allowance brought a run: to its value or to a refused item, after how many steps, or to the state where it stopped.
+// How far an allowance brought a run: to its value or to a refused item, after how many steps, or to the state where it
+// stopped.
 pub enum Driven {
     Finished(Checked64, u64),
     Refused(Refusal, usize, u64),
