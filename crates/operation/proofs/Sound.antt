@@ -32,7 +32,8 @@ powering-sound first second e = by-test (eqb e 0)
   where
     by-test
         : (t : Bool) →
-        SoundOutcome (cond t (value first) (within (InPower (record { first = first; second = second; exponent = e }))))
+        SoundOutcome
+        (cond t (value first) (within (InPower (record { first = first; second = second; exponent = e }))))
     by-test true = tt
     by-test false = refl
 

@@ -1,4 +1,5 @@
--- No two answers of `begin` are the same in numbers, and no two of `work`: so each contract leaves one possible answer.
+-- No two answers of `begin` are the same in numbers, and no two of `work`: so each contract leaves one possible
+-- answer.
 -- Assumes nothing.
 use mathlib.Core.Path.{_≡_, refl, ap}
 use Prim.Native.Nat.{ℕ}

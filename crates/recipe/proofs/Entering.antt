@@ -1,4 +1,5 @@
--- The next item's first step: the code begins it as the run does, and what is still to come after it stays well formed.
+-- The next item's first step: the code begins it as the run does, and what is still to come after it stays well
+-- formed.
 -- Assumes nothing.
 use mathlib.Core.Path.{_≡_, ap, sym, _∙_, subst}
 use mathlib.Core.List.{List, _∷_}
@@ -119,7 +120,7 @@ module _
               let g = good-operation z in
               let o = kind-operation (getD ks d 0) (g .0) (g .1) in
               let H = handOf held hand marks in
-              begins a t (steps.under (steps.under H))
-              (steps.begun M (o .0) (steps.top (steps.under H)) (steps.top H)) h
+              let begun = steps.begun M (o .0) (steps.top (steps.under H)) (steps.top H) in
+              begins a t (steps.under (steps.under H)) begun h
               (ap (λ κ. steps.beginning M t d H κ item later) (o .1))
               ∙ ap (rest M a) (operated .leads t (items ks ns) item (o .0) n next (o .1))

@@ -78,7 +78,8 @@ phaseIn (steps.within p) = p
 phaseIn (steps.fails code) = Between
 
 -- between items nothing changes; at work the allowance is spent
-abbrev StillIn : (M a : ℕ) (zs : List Item) (held d t : ℕ) (p : Phase) (hand : List Value) (p' : Phase) (n : ℕ) → Type 0
+abbrev StillIn
+    : (M a : ℕ) (zs : List Item) (held d t : ℕ) (p : Phase) (hand : List Value) (p' : Phase) (n : ℕ) → Type 0
 StillIn M a zs held d t p hand p' n =
     (rest M a (steps.going t d hand p (drop d zs)) ≡ rest M a (steps.going n d hand p' (drop d zs)))
     × Rests M a zs (record { held = held; done = d; taken = n; phase = p' })
@@ -140,9 +141,10 @@ module _
           left : Goes M a zs hand marks hand' marks' s (between (suc (s .held)) (suc (s .done)) n)
           left =
               let H = handOf (s .held) hand marks in
+              let o = reached.Value v n in
               record {
                 leads =
-                    leads-to M a zs (s .held) (s .done) (s .taken) (s .phase) w H at allowed comes (reached.Value v n) e
+                    leads-to M a zs (s .held) (s .done) (s .taken) (s .phase) w H at allowed comes o e
                     ∙ ap (λ h. rest M a (steps.going n (suc (s .done)) h Between (drop (suc (s .done)) zs)))
                     (sym (f .on));
                 shows = f .shows;

@@ -9,7 +9,8 @@ use Rattle.checked.specs.Value.{Value}
 use Rattle.shape.specs.Items.{Item}
 use Rattle.steps.specs.declared.types.Phase.{Phase}
 use Rattle.steps.specs.declared.types.Phase.the-variants.{Between, InPower, InLogarithm}
-use Rattle.steps.specs.Steps.{Outcome, value, within, fails, powerStep, logarithmStep, going, refused, landed, step, after}
+use Rattle.steps.specs.Steps.{Outcome, value, within, fails, powerStep, logarithmStep}
+use Rattle.steps.specs.Steps.{going, refused, landed, step, after}
 use Rattle.steps.proofs.Runs.{ended-stays}
 use Rattle.steps.proofs.Within.{Working, power-works, logarithm-works}
 use Rattle.operation.specs.Work.{Reach, goneOn}

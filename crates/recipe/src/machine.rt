@@ -31,8 +31,8 @@ fn finish(
     value: Checked64,
 ) -> State
     requires { ⌜ Shows held (now hand) (now marks) × (held < 32) × (done < 256) ⌝ }
-    ensures { λ r. ⌜ Finishes held done taken value (now (hand .entry)) (now (marks .entry))
-        (now (hand .exit)) (now (marks .exit)) r ⌝ }
+    ensures { λ r. ⌜ Finishes held done taken value
+        (now (hand .entry)) (now (marks .entry)) (now (hand .exit)) (now (marks .exit)) r ⌝ }
 {
     put(hand, marks, held, value);
     State {
@@ -55,8 +55,8 @@ fn operate(
     from: u64,
 ) -> Entered
     requires { ⌜ (0 < kind) × (kind < 7) × (2 ≤ held) × Shows held (now hand) (now marks) × (done < 256) ⌝ }
-    ensures { λ r. ⌜ Operates limit from (kindOf kind) held done (now (hand .entry)) (now (marks .entry))
-        (now (hand .exit)) (now (marks .exit)) r ⌝ }
+    ensures { λ r. ⌜ Operates limit from (kindOf kind) held done
+        (now (hand .entry)) (now (marks .entry)) (now (hand .exit)) (now (marks .exit)) r ⌝ }
 {
     let right = take(hand, marks, held - 1);
     let left = take(hand, marks, held - 2);
@@ -112,8 +112,8 @@ fn go_on(
 ) -> State
     requires { ⌜ ((zs : List Item) × Stands limit zs (now hand) (now marks) state) × (state .taken ≤ allowance) ⌝ }
     ensures { λ r. ⌜ ((zs : List Item) → Stands limit zs (now (hand .entry)) (now (marks .entry)) state →
-        Goes limit allowance zs (now (hand .entry)) (now (marks .entry))
-        (now (hand .exit)) (now (marks .exit)) state r) ⌝ }
+        Goes limit allowance zs
+        (now (hand .entry)) (now (marks .entry)) (now (hand .exit)) (now (marks .exit)) state r) ⌝ }
 {
     let phase = state.phase;
     match work(limit, phase, state.taken, allowance) {
@@ -139,7 +139,8 @@ pub(crate) fn drive(
 ) -> Driven
     requires { ⌜ (length (now kinds) ≡ length (now numbers)) × (length (now kinds) ≤ 256) × (0 < length (now kinds)) ⌝ }
     requires { ⌜ Shows 0 (now hand) (now marks) × Good limit 0 (items (now kinds) (now numbers)) ⌝ }
-    ensures { λ r. ⌜ drivenOf (now (hand .exit)) (now (marks .exit)) r ≡ shown (steps.after limit allowance (steps.start (items (now (kinds .entry)) (now (numbers .entry))))) ⌝ }
+    ensures { λ r. ⌜ drivenOf (now (hand .exit)) (now (marks .exit)) r
+        ≡ shown (steps.after limit allowance (steps.start (items (now (kinds .entry)) (now (numbers .entry))))) ⌝ }
 {
     let n = kinds.len();
     let mut state = State {

@@ -3,7 +3,8 @@
 use native.Mathlib.Omega.{arith}
 use Prim.Native.Nat.{_-_}
 use Rattle.shape.specs.Items.{kindOf}
-use Rattle.recipe.proofs.Landing.{Taken, both-taken, room-left, value-operates, phase-operates, refusal-operates}
+use Rattle.recipe.proofs.Landing.{Taken, both-taken, room-left}
+use Rattle.recipe.proofs.Landing.{value-operates, phase-operates, refusal-operates}
 use Rattle.recipe.proofs.Places.{shows-length, take-shows}
 use borrow.Author.Needs.{needs}
 use Rattle.recipe.proofs.machine.operate.Statement.{statement}
@@ -28,7 +29,8 @@ take-requires-2 c κs =
     let s = c .before .before .before .before .before in
     let g = s .args in
     let t = c .before .before .take .ensures .1 in
-    let w = take-shows (g .held) (g .held - 1) (g .hand .now) (g .marks .now) _ _ (omega arith) (s .pre .3) (t .0) (t .1) .1 in
+    let w =
+    take-shows (g .held) (g .held - 1) (g .hand .now) (g .marks .now) _ _ (omega arith) (s .pre .3) (t .0) (t .1) .1 in
     let l = shows-length (g .held - 1) _ _ w in
     let h = s .pre .3 .0 in
     (omega arith, l .0, l .1)
@@ -98,8 +100,8 @@ returns-3 : tie.Need-returns-3
 returns-3 c =
     let b = c .before .before .before in
     let g = start b .args in
-    refusal-operates (taken b) (g .limit) (g .from) (kindOf (g .kind)) (g .done) _ (start b .pre .4) (b .begin .ensures)
-    (c .before .refusal .given .1)
+    refusal-operates (taken b) (g .limit) (g .from) (kindOf (g .kind)) (g .done) _ (start b .pre .4)
+    (b .begin .ensures) (c .before .refusal .given .1)
 
 pub operate-spec : {M : Type 1} → statement M
 operate-spec =
