@@ -9,7 +9,6 @@ use native.Mathlib.Omega.{arith}
 use lib.ListN.{set, length, getD, drop}
 use Rattle.checked.specs.declared.refusal.Refusal.{Refusal}
 use Rattle.checked.specs.Value.{Value}
-use Rattle.checked.specs.Paper.{numberOf}
 use Rattle.shape.specs.Items.{Item, Kind, Operation, operation}
 use Rattle.shape.specs.Shape.{Good}
 use Rattle.steps.specs.declared.types.Phase.{Phase}
@@ -19,12 +18,11 @@ use Rattle.operation.specs.declared.types.Outcome.{Outcome}
 use Rattle.operation.specs.declared.types.Outcome.the-variants as outcomes
 use Rattle.operation.specs.Work.{begunAs, outcome}
 use Rattle.operation.proofs.Sound.{SoundOutcome, begun-sound, sound-works}
-use Rattle.recipe.specs.declared.types.Entered.{Entered}
 use Rattle.recipe.specs.declared.types.Entered.the-variants as entered
 use Rattle.recipe.specs.declared.types.State.{State}
 use Rattle.recipe.specs.Run.{markOf, numberIn}
 use Rattle.recipe.specs.Machine.{valueOf, handOf, Shows, stateOf, between, WithinItem, Ahead, Stands, placed}
-use Rattle.recipe.specs.Machine.{Finishes, enteredOf, Ready, Operates}
+use Rattle.recipe.specs.Machine.{Finishes, Operates}
 use Rattle.recipe.proofs.Places.{put-shows, take-shows}
 use Rattle.recipe.proofs.Going.{landed-placed}
 

@@ -1,7 +1,6 @@
 -- `work::sound_logarithm_on` meets its contract.
 -- Assumes nothing.
 use mathlib.Core.Path.{_∙_}
-use native.Mathlib.Omega.{arith}
 use Rattle.operation.proofs.Sound.{small-base-stays, ended-stays, counted-stays, sound-logarithm-goes}
 use borrow.Author.Needs.{needs}
 use Rattle.operation.proofs.work.sound_logarithm_on.Statement.{statement}
