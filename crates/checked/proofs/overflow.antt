@@ -1,10 +1,8 @@
--- Upstream's `overflow.rs`: each clause of its contracts, from the contract of the function here. Where upstream has a
--- ghost number `self@`, a value here stands for numbers, and the clause holds of each of them. `$uty::MAX` is M.
--- Each law stands once, over M and any type C whose values are seen as values over M, and its hypothesis is the
--- function's `ensures`. Below it are the four types: 64 bits here, and 8, 16 and 32 bits in `narrow`.
+-- Upstream's `overflow.rs`: its clauses (`Clauses`) hold of any type that is seen as values over M. Of the four types, 64
+-- bits is here, and 8, 16 and 32 bits are in `narrow`.
 -- Assumes nothing.
 use mathlib.Core.Path.{_≡_, refl, ap, sym, _∙_, subst}
-use mathlib.Core.Bool.{Bool, true, false, true≢false}
+use mathlib.Core.Bool.{true, true≢false}
 use mathlib.Core.Logic.{_↔_}
 use Prim.Native.Nat.{ℕ, _+_, _*_, _≤_, _<_}
 use native.Mathlib.Omega.{arith}
@@ -16,9 +14,9 @@ use Rattle.checked.specs.declared.types.Plain64.the-variants as p64
 use Rattle.checked.specs.declared.types.Option64.{Option64}
 use Rattle.checked.specs.declared.types.Option64.the-variants as o64
 use Rattle.checked.specs.declared.types.Checked64.the-variants.{Fits, Overflowed}
-use Rattle.checked.specs.Value.{Value, limitOf, Stands, UpTo, Typed, isOverflowed, checkedOf}
-use Rattle.checked.specs.Value.{least, sumOf, productOf, option}
-use Rattle.checked.specs.Paper.{Paper, given, refused, plain, plainOf}
+use Rattle.checked.specs.Value.{Value, limitOf, Stands, isOverflowed, checkedOf, least, sumOf, productOf, option}
+use Rattle.checked.specs.Paper.{plain, plainOf}
+use Rattle.checked.specs.Clauses.{Seen, Clauses}
 use Rattle.checked.proofs.Limit.{fits, over}
 use Rattle.checked.proofs.Promises.{limit-is-largest, sum-stands, product-stands}
 use Rattle.checked.proofs.Standing.{stands, standing, least-stands}
@@ -50,124 +48,75 @@ tells : (M : ℕ) (c : Value) (i : ℕ) → Stands M c i → (isOverflowed c ≡
 tells M (Fits v) i (e, h) = (λ f. absurd (true≢false (sym f)), λ l. let f : ⊥ = omega arith in absurd f)
 tells M Overflowed i h = (λ e. h, λ l. refl)
 
--- ---- over M
+-- ---- the clauses, once
 
-module _ (M : ℕ) {C : Type 0} (value : C → Value) where
-  -- well_formed, of every value: it stands for a number
-  pub every-value-stands : (c : Typed M value) → (i : ℕ) × Stands M (value (c .0)) i
-  every-value-stands c = (least M (value (c .0)), least-stands M (value (c .0)) (c .1))
+module _ (C P O : Type 0) (T : Seen C P O) (M : ℕ) where
+  -- a value that is seen as one that stands for i stands for i
+  as-seen : {c d : Value} (i : ℕ) → c ≡ d → Stands M d i → Stands M c i
+  as-seen i e = subst (λ c. Stands M c i) (sym e)
 
-  -- new: result@ == v
-  pub new-is : (v : UpTo M) (r : C) → value r ≡ Fits (v .0) → Stands M (value r) (v .0)
-  new-is v r e = subst (λ c. Stands M c (v .0)) (sym e) (refl, v .1)
-
-  -- new_overflowed: result@ == i, for any i > MAX
-  pub new-overflowed-is : (i : ℕ) → M < i → (r : C) → value r ≡ Overflowed → Stands M (value r) i
-  new-overflowed-is i h r e = subst (λ c. Stands M c i) (sym e) h
-
-  module _ (self : C) (i : ℕ) (known : Stands M (value self) i) where
-    -- is_overflowed: result == (self@ > MAX)
-    pub is-overflowed-is : (r : Bool) → r ≡ isOverflowed (value self) → (r ≡ true) ↔ (M < i)
-    is-overflowed-is r e = let t = tells M (value self) i known in (λ f. t .0 (sym e ∙ f), λ h. e ∙ t .1 h)
-
-    -- unwrap: result == self@ where self is not overflowed; and refusal 3 where it is
-    pub unwrap-is : (p : Paper) → p ≡ plainOf (value self) → (i ≤ M → p ≡ given (Fits i)) × (M < i → p ≡ refused 3)
-    unwrap-is p e =
-        let s = standing M (value self) i known in
-        (λ h. e ∙ ap plainOf (s ∙ sym (fits M i h)), λ h. e ∙ ap plainOf (s ∙ sym (over M i h)))
-
-    -- to_option: Some(v) => self@ == v && v <= MAX, None => self@ > MAX; and so Some of the number exactly where that
-    -- is at most MAX
-    pub to-option-is
-        : (o : Value) → o ≡ value self →
-        ((v : ℕ) → o ≡ Fits v → (i ≡ v) × (v ≤ M)) × (o ≡ Overflowed → M < i)
-        × (i ≤ M → o ≡ Fits i) × (M < i → o ≡ Overflowed)
-    to-option-is o e = (
-      λ v f. let w = here f in (w .0, subst (λ n. n ≤ M) (w .0) (w .1)),
-      λ f. here f,
-      λ h. e ∙ s ∙ sym (fits M i h),
-      λ h. e ∙ s ∙ sym (over M i h),
-    )
-      where
-        s : value self ≡ checkedOf M i
-        s = standing M (value self) i known
-
-        here : {c : Value} → o ≡ c → Stands M c i
-        here f = subst (λ c. Stands M c i) (sym e ∙ f) known
-
-    -- add_value: result@ == self@ + v2
-    pub add-value-is
-        : (v : UpTo M) (r : C) → value r ≡ sumOf M (value self) (Fits (v .0)) → Stands M (value r) (i + v .0)
-    add-value-is (v, h) r e =
-        subst (λ c. Stands M c (i + v)) (sym e) (sum-stands M (value self) (Fits v) i v known (refl, h))
-
-    -- mul_value: result@ == self@ * v2
-    pub mul-value-is
-        : (v : UpTo M) (r : C) → value r ≡ productOf M (value self) (Fits (v .0)) → Stands M (value r) (i * v .0)
-    mul-value-is (v, h) r e =
-        subst (λ c. Stands M c (i * v)) (sym e) (product-stands M (value self) (Fits v) i v known (refl, h))
-
-    module _ (v : C) (j : ℕ) (other : Stands M (value v) j) where
-      -- add_checked: result@ == self@ + v2@
-      pub add-checked-is : (r : C) → value r ≡ sumOf M (value self) (value v) → Stands M (value r) (i + j)
-      add-checked-is r e =
-          subst (λ c. Stands M c (i + j)) (sym e) (sum-stands M (value self) (value v) i j known other)
-
-      -- mul_checked: result@ == self@ * v2@
-      pub mul-checked-is : (r : C) → value r ≡ productOf M (value self) (value v) → Stands M (value r) (i * j)
-      mul-checked-is r e =
-          subst (λ c. Stands M c (i * j)) (sym e) (product-stands M (value self) (value v) i j known other)
+  pub clauses : Clauses C P O T M
+  clauses =
+      record {
+        every-value-stands = λ c. (least M (T .value (c .0)), least-stands M (T .value (c .0)) (c .1));
+        new-is = λ v r e. as-seen (v .0) e (refl, v .1);
+        new-overflowed-is = λ i h r e. as-seen i e h;
+        is-overflowed-is =
+            λ self i known r e. let t = tells M (T .value self) i known in (λ f. t .0 (sym e ∙ f), λ h. e ∙ t .1 h);
+        unwrap-gives =
+            λ self i known r e h.
+            T .plain-unique r (T .number i)
+            (e ∙ ap plainOf (standing M (T .value self) i known ∙ sym (fits M i h)) ∙ sym (T .number-seen i));
+        unwrap-refuses =
+            λ self i known r e h.
+            T .plain-unique r (T .refusal-3)
+            (e ∙ ap plainOf (standing M (T .value self) i known ∙ sym (over M i h)) ∙ sym (T .refusal-3-seen));
+        some-is =
+            λ self i known r e v f.
+            let w = as-seen i (sym (T .some-seen v) ∙ ap (T .option) (sym f) ∙ e) known in
+            (w .0, subst (λ n. n ≤ M) (w .0) (w .1));
+        none-is = λ self i known r e f. as-seen i (sym (T .none-seen) ∙ ap (T .option) (sym f) ∙ e) known;
+        some-given =
+            λ self i known r e h.
+            T .option-unique r (T .some i)
+            (e ∙ standing M (T .value self) i known ∙ sym (fits M i h) ∙ sym (T .some-seen i));
+        none-given =
+            λ self i known r e h.
+            T .option-unique r (T .none)
+            (e ∙ standing M (T .value self) i known ∙ sym (over M i h) ∙ sym (T .none-seen));
+        add-value-is =
+            λ self i known v r e.
+            as-seen (i + v .0) e (sum-stands M (T .value self) (Fits (v .0)) i (v .0) known (refl, v .1));
+        mul-value-is =
+            λ self i known v r e.
+            as-seen (i * v .0) e (product-stands M (T .value self) (Fits (v .0)) i (v .0) known (refl, v .1));
+        add-checked-is =
+            λ self v i j known other r e.
+            as-seen (i + j) e (sum-stands M (T .value self) (T .value v) i j known other);
+        mul-checked-is =
+            λ self v i j known other r e.
+            as-seen (i * j) e (product-stands M (T .value self) (T .value v) i j known other);
+      }
 
 -- ---- 64 bits: a value is seen as itself
 
-abbrev pub value64 : Value → Value
-value64 c = c
+abbrev pub seen64 : Seen Value Plain64 Option64
+seen64 =
+    record {
+      value = λ c. c;
+      plain = plain;
+      option = option;
+      number = p64.Number;
+      number-seen = λ n. refl;
+      refusal-3 = p64.Refused refusal.Overflowed;
+      refusal-3-seen = refl;
+      plain-unique = plain-unique;
+      some = o64.Some;
+      some-seen = λ n. refl;
+      none = o64.None;
+      none-seen = refl;
+      option-unique = option-unique;
+    }
 
-pub every64-stands : (c : Typed (limitOf 64) value64) → (i : ℕ) × Stands (limitOf 64) (c .0) i
-every64-stands = every-value-stands (limitOf 64) value64
-
-pub new64-is : (v : UpTo (limitOf 64)) (r : Value) → r ≡ Fits (v .0) → Stands (limitOf 64) r (v .0)
-new64-is = new-is (limitOf 64) value64
-
-pub new-overflowed64-is : (i : ℕ) → limitOf 64 < i → (r : Value) → r ≡ Overflowed → Stands (limitOf 64) r i
-new-overflowed64-is = new-overflowed-is (limitOf 64) value64
-
-module _ (self : Value) (i : ℕ) (known : Stands (limitOf 64) self i) where
-  pub is-overflowed64-is : (r : Bool) → r ≡ isOverflowed self → (r ≡ true) ↔ (limitOf 64 < i)
-  is-overflowed64-is = is-overflowed-is (limitOf 64) value64 self i known
-
-  pub unwrap64-is
-      : (r : Plain64) → plain r ≡ plainOf self →
-      (i ≤ limitOf 64 → r ≡ p64.Number i) × (limitOf 64 < i → r ≡ p64.Refused refusal.Overflowed)
-  unwrap64-is r e =
-      let u = unwrap-is (limitOf 64) value64 self i known (plain r) e in
-      (λ h. plain-unique r (p64.Number i) (u .0 h), λ h. plain-unique r (p64.Refused refusal.Overflowed) (u .1 h))
-
-  pub to-option64-is
-      : (r : Option64) → option r ≡ self →
-      ((v : ℕ) → r ≡ o64.Some v → (i ≡ v) × (v ≤ limitOf 64)) × (r ≡ o64.None → limitOf 64 < i)
-      × (i ≤ limitOf 64 → r ≡ o64.Some i) × (limitOf 64 < i → r ≡ o64.None)
-  to-option64-is r e =
-      let t = to-option-is (limitOf 64) value64 self i known (option r) e in (
-        λ v f. t .0 v (ap option f),
-        λ f. t .1 (ap option f),
-        λ h. option-unique r (o64.Some i) (t .2 h),
-        λ h. option-unique r o64.None (t .3 h),
-      )
-
-  pub add-value64-is
-      : (v : UpTo (limitOf 64)) (r : Value) → r ≡ sumOf (limitOf 64) self (Fits (v .0)) →
-      Stands (limitOf 64) r (i + v .0)
-  add-value64-is = add-value-is (limitOf 64) value64 self i known
-
-  pub mul-value64-is
-      : (v : UpTo (limitOf 64)) (r : Value) → r ≡ productOf (limitOf 64) self (Fits (v .0)) →
-      Stands (limitOf 64) r (i * v .0)
-  mul-value64-is = mul-value-is (limitOf 64) value64 self i known
-
-  module _ (v : Value) (j : ℕ) (other : Stands (limitOf 64) v j) where
-    pub add-checked64-is : (r : Value) → r ≡ sumOf (limitOf 64) self v → Stands (limitOf 64) r (i + j)
-    add-checked64-is = add-checked-is (limitOf 64) value64 self i known v j other
-
-    pub mul-checked64-is : (r : Value) → r ≡ productOf (limitOf 64) self v → Stands (limitOf 64) r (i * j)
-    mul-checked64-is = mul-checked-is (limitOf 64) value64 self i known v j other
+pub clauses64 : Clauses Value Plain64 Option64 seen64 (limitOf 64)
+clauses64 = clauses Value Plain64 Option64 seen64 (limitOf 64)

@@ -1,5 +1,7 @@
--- The definitions of this crate: checked values over a limit, and what an operation answers; and, for its helpers, a turn of the power's loop.
+-- The definitions of this crate: checked values over a limit, what an operation answers, and upstream's clauses on a
+-- type of them; and, for its helpers, a turn of the power's loop.
 pub mod Value
 pub mod Paper
 pub mod Pair
+pub mod Clauses
 pub mod Turns
