@@ -15,8 +15,10 @@ use Rattle.checked.specs.Value.{Value, limitOf, checkedOf}
 use Rattle.checked.specs.Paper.{given, refused}
 use Rattle.checked.proofs.Limit.{fits, over}
 use Rattle.checked.proofs.Promises.{log-below-width}
-use Rattle.razovinto.specs.Six.{Operation, sum, product, quotient, remainder, power, logarithm}
-use Rattle.razovinto.specs.Six.{answerOf, worthOf, DivisorZero, BaseBelowTwo, Allowed}
+use Rattle.shape.specs.Items.{Operation, sum, product, quotient, remainder, power, logarithm}
+use Rattle.meaning.specs.Meaning.{worth}
+use Rattle.meaning.specs.Told.{ByZero, SmallBase}
+use Rattle.razovinto.specs.Six.{answerOf, Allowed}
 
 -- the value that it gives where it isn't refused
 abbrev valueFor : Operation → ℕ → ℕ → Value
@@ -30,8 +32,8 @@ valueFor logarithm l r = Fits (log-of l r)
 -- ---- one of the three it is
 
 pub data Stage (o : Operation) (l r : ℕ) : Type 0 where
-  by-zero : DivisorZero o r → answerOf o l r ≡ refused 1 → Stage o l r
-  below-two : BaseBelowTwo o l → answerOf o l r ≡ refused 2 → Stage o l r
+  by-zero : ByZero o r → answerOf o l r ≡ refused 1 → Stage o l r
+  below-two : SmallBase o l → answerOf o l r ≡ refused 2 → Stage o l r
   valued : Allowed o l r → answerOf o l r ≡ given (valueFor o l r) → Stage o l r
 
 pub stage : (o : Operation) (l r : ℕ) → Stage o l r
@@ -62,7 +64,7 @@ given-code : (v : Value) → given v .code ≡ 0
 given-code (Fits n) = refl
 given-code Overflowed = refl
 
-not-both : (o : Operation) (l r : ℕ) → DivisorZero o r → BaseBelowTwo o l → ⊥
+not-both : (o : Operation) (l r : ℕ) → ByZero o r → SmallBase o l → ⊥
 not-both sum l r d b = b
 not-both product l r d b = b
 not-both quotient l r d b = b
@@ -93,10 +95,10 @@ module _ (o : Operation) (l r : ℕ) where
             | valued k e ↦ valued-code e
           ]
 
-  pub code-1-exactly : (answerOf o l r .code ≡ 1) ↔ DivisorZero o r
+  pub code-1-exactly : (answerOf o l r .code ≡ 1) ↔ ByZero o r
   code-1-exactly = (only, back)
     where
-      only : answerOf o l r .code ≡ 1 → DivisorZero o r
+      only : answerOf o l r .code ≡ 1 → ByZero o r
       only c =
           elim (stage o l r) [
             | by-zero d e ↦ d
@@ -104,7 +106,7 @@ module _ (o : Operation) (l r : ℕ) where
             | valued a e ↦ let f : ⊥ = omega (arith, valued-code e) in absurd f
           ]
 
-      back : DivisorZero o r → answerOf o l r .code ≡ 1
+      back : ByZero o r → answerOf o l r .code ≡ 1
       back d =
           elim (stage o l r) [
             | by-zero k e ↦ ap (λ p. p .code) e
@@ -112,10 +114,10 @@ module _ (o : Operation) (l r : ℕ) where
             | valued a e ↦ absurd (a .0 d)
           ]
 
-  pub code-2-exactly : (answerOf o l r .code ≡ 2) ↔ BaseBelowTwo o l
+  pub code-2-exactly : (answerOf o l r .code ≡ 2) ↔ SmallBase o l
   code-2-exactly = (only, back)
     where
-      only : answerOf o l r .code ≡ 2 → BaseBelowTwo o l
+      only : answerOf o l r .code ≡ 2 → SmallBase o l
       only c =
           elim (stage o l r) [
             | by-zero d e ↦ let f : ⊥ = omega (arith, ap (λ p. p .code) e) in absurd f
@@ -123,7 +125,7 @@ module _ (o : Operation) (l r : ℕ) where
             | valued a e ↦ let f : ⊥ = omega (arith, valued-code e) in absurd f
           ]
 
-      back : BaseBelowTwo o l → answerOf o l r .code ≡ 2
+      back : SmallBase o l → answerOf o l r .code ≡ 2
       back b =
           elim (stage o l r) [
             | by-zero d e ↦ absurd (not-both o l r d b)
@@ -142,7 +144,7 @@ module _ (o : Operation) (l r : ℕ) where
 -- ---- its value
 
 -- of a number of 64 bits, and of a larger one
-fitting : (o : Operation) (l r : ℕ) → worthOf o l r ≤ limitOf 64 → valueFor o l r ≡ Fits (worthOf o l r)
+fitting : (o : Operation) (l r : ℕ) → worth o l r ≤ limitOf 64 → valueFor o l r ≡ Fits (worth o l r)
 fitting sum l r h = sym (fits (limitOf 64) (l + r) h)
 fitting product l r h = sym (fits (limitOf 64) (l * r) h)
 fitting quotient l r h = refl
@@ -151,7 +153,7 @@ fitting power l r h = sym (fits (limitOf 64) (l ^ r) h)
 fitting logarithm l r h = refl
 
 overflowing
-    : (o : Operation) (l r : ℕ) → l ≤ limitOf 64 → r ≤ limitOf 64 → Allowed o l r → limitOf 64 < worthOf o l r →
+    : (o : Operation) (l r : ℕ) → l ≤ limitOf 64 → r ≤ limitOf 64 → Allowed o l r → limitOf 64 < worth o l r →
     valueFor o l r ≡ Overflowed
 overflowing sum l r left right a h = sym (over (limitOf 64) (l + r) h)
 overflowing product l r left right a h = sym (over (limitOf 64) (l * r) h)
@@ -174,20 +176,20 @@ module _ (o : Operation) (l r : ℕ) (allowed : Allowed o l r) where
         | valued a e ↦ e
       ]
 
-  pub fitting-given : worthOf o l r ≤ limitOf 64 → answerOf o l r ≡ given (Fits (worthOf o l r))
+  pub fitting-given : worth o l r ≤ limitOf 64 → answerOf o l r ≡ given (Fits (worth o l r))
   fitting-given h = value-given ∙ ap given (fitting o l r h)
 
   module _ (left : l ≤ limitOf 64) (right : r ≤ limitOf 64) where
-    pub overflowed-given : limitOf 64 < worthOf o l r → answerOf o l r ≡ given Overflowed
+    pub overflowed-given : limitOf 64 < worth o l r → answerOf o l r ≡ given Overflowed
     overflowed-given h = value-given ∙ ap given (overflowing o l r left right allowed h)
 
     -- eight bytes hold its number
     pub number-below : answerOf o l r .number < 256 ^ 8
     number-below =
-        elim (decLe (worthOf o l r) (limitOf 64)) [
+        elim (decLe (worth o l r) (limitOf 64)) [
           | yes h ↦
-              let e : answerOf o l r .number ≡ worthOf o l r = ap (λ p. p .number) (fitting-given h) in omega arith
+              let e : answerOf o l r .number ≡ worth o l r = ap (λ p. p .number) (fitting-given h) in omega arith
           | no n ↦
-              let h : limitOf 64 < worthOf o l r = omega arith in
+              let h : limitOf 64 < worth o l r = omega arith in
               let e : answerOf o l r .number ≡ 0 = ap (λ p. p .number) (overflowed-given h) in omega arith
         ]

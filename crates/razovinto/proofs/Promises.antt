@@ -11,11 +11,13 @@ use native.Mathlib.Omega.{arith}
 use lib.ListN.{length, drop}
 use Rattle.checked.specs.Value.{limitOf}
 use Rattle.checked.specs.Paper.{sumsOf, productsOf, dividedBy, leftBy, powersOf, logOf}
+use Rattle.shape.specs.Items.{Operation, sum, product, quotient, remainder, power, logarithm}
+use Rattle.meaning.specs.Meaning.{worth}
+use Rattle.meaning.specs.Told.{ByZero, SmallBase}
 use Rattle.little.specs.Bytes.{byteAt, part, little, bytesOf}
 use Rattle.little.proofs.Little.{little-bytes}
 use Rattle.razovinto.specs.Entry.{resultBytes, returned, afterwards}
-use Rattle.razovinto.specs.Six.{Operation, sum, product, quotient, remainder, power, logarithm}
-use Rattle.razovinto.specs.Six.{answerOf, worthOf, DivisorZero, BaseBelowTwo, Allowed}
+use Rattle.razovinto.specs.Six.{answerOf, Allowed}
 use Rattle.razovinto.proofs.Slices.{short-returns, short-stays}
 use Rattle.razovinto.proofs.Written.{returned-exactly, returned-19-exactly, stays, written, number-there}
 use Rattle.razovinto.proofs.Written.{mark-there, zeros-there, later-there}
@@ -41,7 +43,7 @@ module _ (o : Operation) (l r : ℕ) (result : List ℕ) where
       returned-19-exactly (answerOf o l r) result small
 
   -- 1 exactly when there is room, and it is a quotient or a remainder by 0
-  pub refused-1-exactly : (returned (answerOf o l r) result ≡ 1) ↔ ((16 ≤ length result) × DivisorZero o r)
+  pub refused-1-exactly : (returned (answerOf o l r) result ≡ 1) ↔ ((16 ≤ length result) × ByZero o r)
   refused-1-exactly =
       let small : 1 < 19 = omega arith in
       let f = returned-exactly (answerOf o l r) result 1 small in
@@ -49,7 +51,7 @@ module _ (o : Operation) (l r : ℕ) (result : List ℕ) where
       (λ e. (f .0 e .0, g .0 (f .0 e .1)), λ p. f .1 (p .0, g .1 (p .1)))
 
   -- 2 exactly when there is room, and it is a logarithm in a base below 2
-  pub refused-2-exactly : (returned (answerOf o l r) result ≡ 2) ↔ ((16 ≤ length result) × BaseBelowTwo o l)
+  pub refused-2-exactly : (returned (answerOf o l r) result ≡ 2) ↔ ((16 ≤ length result) × SmallBase o l)
   refused-2-exactly =
       let small : 2 < 19 = omega arith in
       let f = returned-exactly (answerOf o l r) result 2 small in
@@ -111,12 +113,12 @@ module _ (o : Operation) (l r : ℕ) (result : List ℕ) where
 
     -- a result of 64 bits: its number, read back as the host reads it, and the mark 0
     pub fitting-written
-        : worthOf o l r ≤ limitOf 64 →
-        (little (part 0 8 (afterwards (answerOf o l r) result)) ≡ worthOf o l r)
+        : worth o l r ≤ limitOf 64 →
+        (little (part 0 8 (afterwards (answerOf o l r) result)) ≡ worth o l r)
         × (byteAt (afterwards (answerOf o l r) result) 8 ≡ 0)
     fitting-written h =
         let e = fitting-given o l r allowed h in
-        let n : answerOf o l r .number ≡ worthOf o l r = ap (λ p. p .number) e in
+        let n : answerOf o l r .number ≡ worth o l r = ap (λ p. p .number) e in
         let small : answerOf o l r .number < 256 ^ 8 = omega arith in (
           ap little number-written ∙ little-bytes 8 (answerOf o l r .number) small ∙ n,
           mark-written ∙ ap (λ p. p .mark) e,
@@ -132,7 +134,7 @@ module _ (o : Operation) (l r : ℕ) (result : List ℕ) where
 
       -- a larger result: the number 0 with the mark 1
       pub overflowed-written
-          : limitOf 64 < worthOf o l r →
+          : limitOf 64 < worth o l r →
           (little (part 0 8 (afterwards (answerOf o l r) result)) ≡ 0)
           × (byteAt (afterwards (answerOf o l r) result) 8 ≡ 1)
       overflowed-written h =
