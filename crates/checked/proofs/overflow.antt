@@ -14,7 +14,7 @@ use Rattle.checked.specs.declared.types.Plain64.the-variants as p64
 use Rattle.checked.specs.declared.types.Option64.{Option64}
 use Rattle.checked.specs.declared.types.Option64.the-variants as o64
 use Rattle.checked.specs.declared.types.Checked64.the-variants.{Fits, Overflowed}
-use Rattle.checked.specs.Value.{Value, limitOf, Stands, isOverflowed, checkedOf, least, sumOf, productOf, option}
+use Rattle.checked.specs.Value.{Value, limitOf, Stands, isOverflowed, checkedOf, least, option}
 use Rattle.checked.specs.Paper.{plain, plainOf}
 use Rattle.checked.specs.Clauses.{Seen, Clauses}
 use Rattle.checked.proofs.Limit.{fits, over}

@@ -3,11 +3,11 @@
 use mathlib.Core.Path.{_≡_, refl, ap, sym, _∙_, subst}
 use mathlib.Core.Logic.{⊎-elim}
 use mathlib.Core.List.{List, [], _∷_}
-use Prim.Native.Nat.{ℕ, _≤_, _<_, zero-le}
+use Prim.Native.Nat.{ℕ, suc, _≤_, _<_, zero-le}
 use native.Mathlib.Decide.{ℕ-discrete, decLt}
 use native.Mathlib.Omega.{arith}
 use borrow.Author.Tests.{ne-eqb}
-use lib.ListN.{length}
+use lib.ListN.{length, getD}
 use Rattle.checked.specs.declared.types.Checked64.the-variants.{Fits, Overflowed}
 use Rattle.checked.specs.Value.{Value, limitOf, checkedOf}
 use Rattle.checked.specs.Paper.{Paper, given}
@@ -16,14 +16,15 @@ use Rattle.shape.specs.Shape.{refused, Good, shapeOf}
 use Rattle.shape.proofs.Shapes.{shape-good}
 use Rattle.shape.proofs.Promises as shape
 use Rattle.meaning.specs.Meaning.{Meant, number, failed, meaning}
+use Rattle.meaning.specs.Faults.{handAfter}
 use Rattle.meaning.proofs.Promises as meant
 use Rattle.steps.specs.declared.types.Phase.{Phase}
 use Rattle.steps.specs.Steps as steps
-use Rattle.steps.specs.Shown.{ShowsMeaning}
+use Rattle.steps.specs.Shown.{OnHand, ShowsMeaning}
 use Rattle.steps.proofs.Agreement as agreed
 use Rattle.steps.proofs.Stops.{shows}
 use Rattle.recipe.specs.Run.{ended, stopped, refusedAt, shown, answered, answerMeant, countOf, stateAfter, runOf}
-use Rattle.recipe.specs.Run.{WellFormed, StopsAt}
+use Rattle.recipe.specs.Run.{phaseNumbers, WellFormed, StopsAt}
 use Rattle.recipe.proofs.Shaped.{run-well-formed, run-refused}
 
 -- ---- what the meaning's answer is in numbers
@@ -128,4 +129,19 @@ module _ (W : ℕ) (ks ns : List ℕ) (k : ℕ) where
             let s = subst (ShowsMeaning (limitOf W) (items ks ns)) e (shows (limitOf W) k (items ks ns) g) in
             going-on d hand p (x ∷ rest) g s r
         | enough w h r ↦ over (answerMeant W ks ns) (countOf W ks ns) r
+      ]
+
+  -- what a phase with this number shows is shown by a run with it; 0 is between items, and where the run is over
+  pub in-phase
+      : (n : ℕ) → 0 < n → (Q : List ℕ → Type 0) →
+      ((hand : List Value) (p : Phase) (before then : List ℕ) → OnHand (limitOf W) hand p before then →
+      getD (phaseNumbers p) 0 0 ≡ n → Q (phaseNumbers p)) →
+      getD (runOf W ks ns k .phase) 0 0 ≡ n → Q (runOf W ks ns k .phase)
+  in-phase n h Q shown-so e =
+      elim view [
+        | over a t r ↦ let f : ⊥ = omega (arith, ap (λ r. getD (r .phase) 0 0) r) in absurd f
+        | going-on d hand p rest g s r ↦
+            subst (λ s. Q (s .phase)) (sym r)
+            (shown-so hand p (handAfter d [] (items ks ns)) (handAfter (suc d) [] (items ks ns)) (s .1)
+            (sym (ap (λ r. getD (r .phase) 0 0) r) ∙ e))
       ]

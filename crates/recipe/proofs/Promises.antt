@@ -6,7 +6,7 @@ use mathlib.Core.Path.{_≡_, refl, ap, ap₂, sym, _∙_, subst}
 use mathlib.Core.Logic.{_↔_, _⊎_, inl, inr, ⊎-elim}
 use mathlib.Core.Bool.{true}
 use mathlib.Core.List.{List, [], _∷_}
-use Prim.Native.Nat.{ℕ, suc, _+_, _-_, _*_, _/_, _%_, _≤_, _<_}
+use Prim.Native.Nat.{ℕ, _+_, _-_, _*_, _/_, _%_, _≤_, _<_}
 use native.Mathlib.Nat.{mul-le-mul-left}
 use native.Mathlib.Decide.{decLt}
 use native.Mathlib.Omega.{arith}
@@ -274,22 +274,9 @@ module _ (W : ℕ) (ks ns : List ℕ) (k : ℕ) where
 
   -- within a power both values are values of the width and are shown so, and the exponent is at most M
   pub power-shown : getD (runOf W ks ns k .phase) 0 0 ≡ 1 → ShowsPower (limitOf W) (runOf W ks ns k .phase)
-  power-shown e =
-      elim (courses.view W ks ns k) [
-        | courses.over a t r ↦ let f : ⊥ = omega (arith, ap (λ r. getD (r .phase) 0 0) r) in absurd f
-        | courses.going-on d hand p rest g s r ↦
-            subst (λ s. ShowsPower (limitOf W) (s .phase)) (sym r)
-            (shows-power (limitOf W) hand p (handAfter d [] (items ks ns)) (handAfter (suc d) [] (items ks ns))
-            (s .1) (sym (ap (λ r. getD (r .phase) 0 0) r) ∙ e))
-      ]
+  power-shown = courses.in-phase W ks ns k 1 (omega arith) (ShowsPower (limitOf W)) (shows-power (limitOf W))
 
   -- within a logarithm the base and what is left are at most M
   pub logarithm-shown : getD (runOf W ks ns k .phase) 0 0 ≡ 2 → ShowsLogarithm (limitOf W) (runOf W ks ns k .phase)
-  logarithm-shown e =
-      elim (courses.view W ks ns k) [
-        | courses.over a t r ↦ let f : ⊥ = omega (arith, ap (λ r. getD (r .phase) 0 0) r) in absurd f
-        | courses.going-on d hand p rest g s r ↦
-            subst (λ s. ShowsLogarithm (limitOf W) (s .phase)) (sym r)
-            (shows-logarithm (limitOf W) hand p (handAfter d [] (items ks ns)) (handAfter (suc d) [] (items ks ns))
-            (s .1) (sym (ap (λ r. getD (r .phase) 0 0) r) ∙ e))
-      ]
+  logarithm-shown =
+      courses.in-phase W ks ns k 2 (omega arith) (ShowsLogarithm (limitOf W)) (shows-logarithm (limitOf W))

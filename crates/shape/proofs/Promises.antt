@@ -18,9 +18,8 @@ use Rattle.shape.specs.Faults.{UnknownOrNumbered, AboveLimit, TooFewOnHa
 use Rattle.shape.specs.Faults.{heldBefore, faultHere, faultAt, FirstFault, OnlyEndFault, NoneOrFrom, Countable}
 use Rattle.shape.specs.Faults.{LookedAt, kindAt, numberAt, heldAt, SeveralLeft, literals, operations, countBefore}
 use Rattle.shape.proofs.Items.{length-items, items-at}
-use Rattle.shape.proofs.Told.{unknown-or-numbered, above-limit, too-few, hand-full, none, standing}
 use Rattle.shape.proofs.Told.{unknown-or-numbered-8, above-limit-9, too-few-10, hand-full-11, faultless-0}
-use Rattle.shape.proofs.Told.{end-more, end-more-only}
+use Rattle.shape.proofs.Told.{sentences, end-more, end-more-only}
 use Rattle.shape.proofs.Held.{held-counted, held-at-most}
 pub use Rattle.shape.proofs.Told.{code-of-literal, code-of-operation, code-of-unknown}
 use Rattle.shape.proofs.Shapes.{known-widths, at-unequal, at-none, at-many, at-items, no-width, lengths-differ, miscounted, looked-at, at-unknown-width, at-known-width, stage, good-shape, shape-good}
@@ -34,82 +33,25 @@ width-known-exactly W = (known-widths W, ⊎-elim (ap knownWidth) (⊎-elim (ap 
 -- ---- an item's fault, by its kind, its number, the limit and the values on hand before it
 
 module _ (M held : ℕ) (kind : Kind) (number : ℕ) where
-  abbrev fault : ℕ
-  fault = faultOf M held kind number
-
-  -- it has one fault
-  other : {A : Type 0} {c d : ℕ} → fault ≡ c → fault ≡ d → (c ≡ d → ⊥) → A
-  other e f n = absurd (n (sym e ∙ f))
-
   -- 8 exactly for an unknown kind, or an operation with a number that isn't 0
-  pub fault-8-exactly : (fault ≡ 8) ↔ UnknownOrNumbered kind number
-  fault-8-exactly = (only, unknown-or-numbered-8 M held kind number)
-    where
-      only : fault ≡ 8 → UnknownOrNumbered kind number
-      only f =
-          elim (standing M held kind number) [
-            | unknown-or-numbered t e ↦ t
-            | above-limit t e ↦ other e f (λ q. omega arith)
-            | too-few t e ↦ other e f (λ q. omega arith)
-            | hand-full t e ↦ other e f (λ q. omega arith)
-            | none t e ↦ other e f (λ q. omega arith)
-          ]
+  pub fault-8-exactly : (faultOf M held kind number ≡ 8) ↔ UnknownOrNumbered kind number
+  fault-8-exactly = (sentences M held kind number .0, unknown-or-numbered-8 M held kind number)
 
   -- 9 exactly for a literal above M
-  pub fault-9-exactly : (fault ≡ 9) ↔ AboveLimit M kind number
-  fault-9-exactly = (only, above-limit-9 M held kind number)
-    where
-      only : fault ≡ 9 → AboveLimit M kind number
-      only f =
-          elim (standing M held kind number) [
-            | unknown-or-numbered t e ↦ other e f (λ q. omega arith)
-            | above-limit t e ↦ t
-            | too-few t e ↦ other e f (λ q. omega arith)
-            | hand-full t e ↦ other e f (λ q. omega arith)
-            | none t e ↦ other e f (λ q. omega arith)
-          ]
+  pub fault-9-exactly : (faultOf M held kind number ≡ 9) ↔ AboveLimit M kind number
+  fault-9-exactly = (sentences M held kind number .1, above-limit-9 M held kind number)
 
   -- 10 exactly for an operation with the number 0 and fewer than two values on hand
-  pub fault-10-exactly : (fault ≡ 10) ↔ TooFewOnHand held kind number
-  fault-10-exactly = (only, too-few-10 M held kind number)
-    where
-      only : fault ≡ 10 → TooFewOnHand held kind number
-      only f =
-          elim (standing M held kind number) [
-            | unknown-or-numbered t e ↦ other e f (λ q. omega arith)
-            | above-limit t e ↦ other e f (λ q. omega arith)
-            | too-few t e ↦ t
-            | hand-full t e ↦ other e f (λ q. omega arith)
-            | none t e ↦ other e f (λ q. omega arith)
-          ]
+  pub fault-10-exactly : (faultOf M held kind number ≡ 10) ↔ TooFewOnHand held kind number
+  fault-10-exactly = (sentences M held kind number .2, too-few-10 M held kind number)
 
   -- 11 exactly for a literal at most M that would be the 33rd on hand
-  pub fault-11-exactly : (fault ≡ 11) ↔ HandFull M held kind number
-  fault-11-exactly = (only, hand-full-11 M held kind number)
-    where
-      only : fault ≡ 11 → HandFull M held kind number
-      only f =
-          elim (standing M held kind number) [
-            | unknown-or-numbered t e ↦ other e f (λ q. omega arith)
-            | above-limit t e ↦ other e f (λ q. omega arith)
-            | too-few t e ↦ other e f (λ q. omega arith)
-            | hand-full t e ↦ t
-            | none t e ↦ other e f (λ q. omega arith)
-          ]
+  pub fault-11-exactly : (faultOf M held kind number ≡ 11) ↔ HandFull M held kind number
+  fault-11-exactly = (sentences M held kind number .3, hand-full-11 M held kind number)
 
   -- and none exactly for a literal at most M with room for it, or an operation with the number 0 and its two operands
-  pub fault-0-exactly : (fault ≡ 0) ↔ Faultless M held kind number
-  fault-0-exactly = (only, faultless-0 M held kind number)
-    where
-      only : fault ≡ 0 → Faultless M held kind number
-      only f =
-          elim (standing M held kind number) [
-            | unknown-or-numbered t e ↦ other e f (λ q. omega arith)
-            | above-limit t e ↦ other e f (λ q. omega arith)
-            | too-few t e ↦ other e f (λ q. omega arith)
-            | hand-full t e ↦ other e f (λ q. omega arith)
-            | none t e ↦ t
-          ]
+  pub fault-0-exactly : (faultOf M held kind number ≡ 0) ↔ Faultless M held kind number
+  fault-0-exactly = (sentences M held kind number .4, faultless-0 M held kind number)
 
 -- the end has 12 exactly with more than one value on hand
 pub end-12-exactly : (held : ℕ) → (endFault held ≡ 12) ↔ (1 < held)

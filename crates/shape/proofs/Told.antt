@@ -3,10 +3,12 @@
 -- Assumes nothing.
 use mathlib.Core.Path.{_≡_, refl, ap, sym, _∙_}
 use mathlib.Core.Logic.{_↔_, inl, inr}
+use mathlib.Core.Bool.{false}
 use Prim.Native.Nat.{ℕ, _≤_, _<_}
 use native.Mathlib.Decide.{ℕ-discrete, decLt}
 use native.Mathlib.Omega.{arith}
-use borrow.Author.Tests.{ne-eqb}
+use borrow.Author.Tests.{ne-eqb, eqb-false}
+use lib.Dec.{eqb}
 use Rattle.shape.specs.Items.{Operation, Kind, literal, operation, unknown, kindOf}
 use Rattle.shape.specs.Shape.{faultOf, endFault}
 use Rattle.shape.specs.Faults.{Operates, UnknownOrNumbered, AboveLimit, TooFewOnHand, HandFull, Faultless}
@@ -21,7 +23,7 @@ module _ (M held : ℕ) (kind : Kind) (number : ℕ) where
   fault = faultOf M held kind number
 
   -- what is so of an item, and the fault that it then has
-  pub data Standing : Type 0 where
+  data Standing : Type 0 where
     unknown-or-numbered : UnknownOrNumbered kind number → fault ≡ 8 → Standing
     above-limit : AboveLimit M kind number → fault ≡ 9 → Standing
     too-few : TooFewOnHand held kind number → fault ≡ 10 → Standing
@@ -67,7 +69,7 @@ module _ (M held : ℕ) (kind : Kind) (number : ℕ) where
   is-faultless t = none t (faultless-0 t)
 
 -- every item stands in one of these ways
-pub standing : (M held : ℕ) (kind : Kind) (number : ℕ) → Standing M held kind number
+standing : (M held : ℕ) (kind : Kind) (number : ℕ) → Standing M held kind number
 standing M held literal number =
     elim (decLt M number) [
       | yes h ↦ is-above-limit M held literal number (refl, h)
@@ -88,6 +90,26 @@ standing M held (operation o) number =
           ]
     ]
 standing M held unknown number = is-unknown-or-numbered M held unknown number (inl refl)
+
+-- so the number tells in which
+module _ (M held : ℕ) (kind : Kind) (number : ℕ) where
+  other : {A : Type 0} {c d : ℕ} → faultOf M held kind number ≡ c → eqb c d ≡ false → faultOf M held kind number ≡ d → A
+  other {A} {c} {d} e t f = absurd (eqb-false c d t (sym e ∙ f))
+
+  pub sentences
+      : (faultOf M held kind number ≡ 8 → UnknownOrNumbered kind number)
+      × (faultOf M held kind number ≡ 9 → AboveLimit M kind number)
+      × (faultOf M held kind number ≡ 10 → TooFewOnHand held kind number)
+      × (faultOf M held kind number ≡ 11 → HandFull M held kind number)
+      × (faultOf M held kind number ≡ 0 → Faultless M held kind number)
+  sentences =
+      elim (standing M held kind number) [
+        | unknown-or-numbered t e ↦ (λ f. t, other e refl, other e refl, other e refl, other e refl)
+        | above-limit t e ↦ (other e refl, λ f. t, other e refl, other e refl, other e refl)
+        | too-few t e ↦ (other e refl, other e refl, λ f. t, other e refl, other e refl)
+        | hand-full t e ↦ (other e refl, other e refl, other e refl, λ f. t, other e refl)
+        | none t e ↦ (other e refl, other e refl, other e refl, other e refl, λ f. t)
+      ]
 
 -- ---- the end
 
