@@ -1,5 +1,5 @@
--- Upstream's `overflow.rs`: its clauses (`Clauses`) hold of any type that is seen as values over M. Of the four types, 64
--- bits is here, and 8, 16 and 32 bits are in `narrow`.
+-- Upstream's `overflow.rs`: its clauses (`Clauses`) hold of any type that is seen as values over M. Of the four types,
+-- 64 bits is here, and 8, 16 and 32 bits are in `narrow`.
 -- Assumes nothing.
 use mathlib.Core.Path.{_≡_, refl, ap, sym, _∙_, subst}
 use mathlib.Core.Bool.{true, true≢false}

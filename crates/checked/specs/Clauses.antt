@@ -1,6 +1,6 @@
--- Upstream's `overflow.rs` on a type of checked values: each clause of its contracts, with the `ensures` of the function
--- here as its hypothesis. Where upstream has a ghost number `self@`, a value here stands for numbers, and the clause
--- holds of each of them. `$uty::MAX` is the limit M.
+-- Upstream's `overflow.rs` on a type of checked values: each clause of its contracts, with the `ensures` of the
+-- function here as its hypothesis. Where upstream has a ghost number `self@`, a value here stands for numbers, and the
+-- clause holds of each of them. `$uty::MAX` is the limit M.
 -- Assumes nothing.
 use mathlib.Core.Path.{_≡_}
 use mathlib.Core.Logic.{_↔_}
@@ -10,8 +10,8 @@ use Rattle.checked.specs.declared.types.Checked64.the-variants.{Fits, Ov
 use Rattle.checked.specs.Value.{Value, Stands, UpTo, Typed, isOverflowed, sumOf, productOf}
 use Rattle.checked.specs.Paper.{Paper, given, refused, plainOf}
 
--- a type C of checked values, with the types P and O that `unwrap` and `to_option` give out: how each is seen, the cases
--- of the last two, and that what is seen tells them apart
+-- a type C of checked values, with the types P and O that `unwrap` and `to_option` give out: how each is seen, the
+-- cases of the last two, and that what is seen tells them apart
 pub record Seen (C P O : Type 0) : Type 0 where
   pub value : C → Value
   pub plain : P → Paper
@@ -50,12 +50,15 @@ pub record Clauses (C P O : Type 0) (T : Seen C P O) (M : ℕ) : Type 0 where
       : (self : C) (i : ℕ) → Stands M (T .value self) i → (r : O) → T .option r ≡ T .value self → (v : ℕ) →
       r ≡ T .some v → (i ≡ v) × (v ≤ M)
   pub none-is
-      : (self : C) (i : ℕ) → Stands M (T .value self) i → (r : O) → T .option r ≡ T .value self → r ≡ T .none → M < i
+      : (self : C) (i : ℕ) → Stands M (T .value self) i → (r : O) → T .option r ≡ T .value self → r ≡ T .none →
+      M < i
   -- and so Some of the number exactly where that is at most MAX
   pub some-given
-      : (self : C) (i : ℕ) → Stands M (T .value self) i → (r : O) → T .option r ≡ T .value self → i ≤ M → r ≡ T .some i
+      : (self : C) (i : ℕ) → Stands M (T .value self) i → (r : O) → T .option r ≡ T .value self → i ≤ M →
+      r ≡ T .some i
   pub none-given
-      : (self : C) (i : ℕ) → Stands M (T .value self) i → (r : O) → T .option r ≡ T .value self → M < i → r ≡ T .none
+      : (self : C) (i : ℕ) → Stands M (T .value self) i → (r : O) → T .option r ≡ T .value self → M < i →
+      r ≡ T .none
   -- add_value: result@ == self@ + v2
   pub add-value-is
       : (self : C) (i : ℕ) → Stands M (T .value self) i → (v : UpTo M) (r : C) →

@@ -1,6 +1,8 @@
--- The laws on an operation's steps as the code takes them. `Unique` says that the contracts of `begin` and `work`
--- leave one answer each; what the answers are good for is said by the crate above.
+-- The laws on an operation's steps as the code takes them. `Promises` states what its first step promises, and `Unique`
+-- that the contracts leave one answer each; what further steps come to is said by the crate above.
 pub mod Outcomes
 pub mod Going
 pub mod Sound
 pub mod Unique
+pub mod Begun
+pub mod Promises
