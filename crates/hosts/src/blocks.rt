@@ -1,0 +1,67 @@
+// Blocks and runs of blocks.
+use crate::answer::put_four;
+use crate::answer::put_three;
+use crate::answer::too_short;
+use block::read::read;
+use block::sound::sound;
+use block::types::Read;
+use block::types::Sound;
+use search::search::search;
+use search::types::Found;
+
+// The refusal's place, which is 0, with the block's number and count.
+const BLOCK_ANSWER_LENGTH: usize = 3;
+
+// The refusal's place, or 0 with whether a value was found, its block's position and its place there.
+const FOUND_LENGTH: usize = 4;
+
+#[no_mangle]
+pub extern "C" fn razovinto_sound(block: &[u8]) -> u32 {
+    match sound(block) {
+        Sound::Sound => 0,
+        Sound::Refused(refusal) => refusal.number(),
+    }
+}
+
+#[no_mangle]
+pub extern "C" fn razovinto_read(
+    block: &[u8],
+    numbers: &mut [u64],
+    marks: &mut [u8],
+    answer: &mut [u64],
+) -> u32 {
+    if answer.len() < BLOCK_ANSWER_LENGTH {
+        return too_short();
+    }
+    match read(block, numbers, marks) {
+        Read::Values { number, count } => {
+            put_three(answer, 0, number as u64, count as u64);
+            0
+        }
+        Read::Refused(refusal) => {
+            put_three(answer, 0, 0, 0);
+            refusal.number()
+        }
+    }
+}
+
+#[no_mangle]
+pub extern "C" fn razovinto_search(run: &[u8], answer: &mut [u64]) -> u32 {
+    if answer.len() < FOUND_LENGTH {
+        return too_short();
+    }
+    match search(run) {
+        Found::Overflowed { position, place } => {
+            put_four(answer, 0, 1, position, place);
+            0
+        }
+        Found::None => {
+            put_four(answer, 0, 0, 0, 0);
+            0
+        }
+        Found::Refused(refusal, position) => {
+            put_four(answer, position, 0, 0, 0);
+            refusal.number()
+        }
+    }
+}

@@ -1,0 +1,46 @@
+// Entries on single numbers.
+use crate::answer::too_short;
+use fit::power_fits;
+use signed::divide::quotient64;
+use signed::divide::remainder64;
+ghost use mathlib.Core.Path.{_≡_};
+ghost use Prim.Native.Nat.{_≤_};
+ghost use lib.ListN.{length};
+use signed::types::Signed64;
+
+// 1 where the power fits 64 bits, 0 where it doesn't.
+#[no_mangle]
+pub extern "C" fn razovinto_power_fits(base: u64, exponent: u64) -> u32 {
+    if power_fits(base, exponent) {
+        return 1;
+    }
+    0
+}
+
+fn put_signed(result: &mut [i64], answer: Signed64) -> u32
+    requires { ⌜ 1 ≤ length (now result) ⌝ }
+{
+    match answer {
+        Signed64::Number(n) => {
+            result[0] = n;
+            0
+        }
+        Signed64::Refused(refusal) => refusal.number(),
+    }
+}
+
+#[no_mangle]
+pub extern "C" fn razovinto_signed_quotient(left: i64, right: i64, result: &mut [i64]) -> u32 {
+    if result.len() < 1 {
+        return too_short();
+    }
+    put_signed(result, quotient64(left, right))
+}
+
+#[no_mangle]
+pub extern "C" fn razovinto_signed_remainder(left: i64, right: i64, result: &mut [i64]) -> u32 {
+    if result.len() < 1 {
+        return too_short();
+    }
+    put_signed(result, remainder64(left, right))
+}

@@ -1,2 +1,0 @@
--- The definitions of this crate: an answer's five numbers.
-pub mod Five
