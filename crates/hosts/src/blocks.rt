@@ -8,6 +8,12 @@ use block::types::Read;
 use block::types::Sound;
 use search::search::search;
 use search::types::Found;
+ghost use mathlib.Core.Path.{_≡_};
+ghost use Rattle.layout.specs.Reading.{readingOf};
+ghost use Rattle.block.specs.Answers.{soundOf};
+ghost use Rattle.search.specs.Search.{searchOf};
+ghost use Rattle.hosts.specs.Entry.{returned, afterwards};
+ghost use Rattle.hosts.specs.Answers.{ofReading, ofSearch, numbersBeside, marksBeside};
 
 // The refusal's place, which is 0, with the block's number and count.
 const BLOCK_ANSWER_LENGTH: usize = 3;
@@ -16,7 +22,9 @@ const BLOCK_ANSWER_LENGTH: usize = 3;
 const FOUND_LENGTH: usize = 4;
 
 #[no_mangle]
-pub extern "C" fn razovinto_sound(block: &[u8]) -> u32 {
+pub extern "C" fn razovinto_sound(block: &[u8]) -> u32
+    ensures { λ r. ⌜ r ≡ soundOf (now (block .entry)) .code ⌝ }
+{
     match sound(block) {
         Sound::Sound => 0,
         Sound::Refused(refusal) => refusal.number(),
@@ -29,7 +37,23 @@ pub extern "C" fn razovinto_read(
     numbers: &mut [u64],
     marks: &mut [u8],
     answer: &mut [u64],
-) -> u32 {
+) -> u32
+    ensures { λ r. ⌜
+        r ≡ returned (ofReading (readingOf (now (block .entry)) (now (numbers .entry)) (now (marks .entry)))) (now (answer .entry))
+        ⌝ }
+    ensures { λ r. ⌜
+        now (answer .exit) ≡
+        afterwards (ofReading (readingOf (now (block .entry)) (now (numbers .entry)) (now (marks .entry)))) (now (answer .entry))
+        ⌝ }
+    ensures { λ r. ⌜
+        now (numbers .exit) ≡
+        numbersBeside (now (block .entry)) (now (numbers .entry)) (now (marks .entry)) (now (answer .entry))
+        ⌝ }
+    ensures { λ r. ⌜
+        now (marks .exit) ≡
+        marksBeside (now (block .entry)) (now (numbers .entry)) (now (marks .entry)) (now (answer .entry))
+        ⌝ }
+{
     if answer.len() < BLOCK_ANSWER_LENGTH {
         return too_short();
     }
@@ -46,7 +70,10 @@ pub extern "C" fn razovinto_read(
 }
 
 #[no_mangle]
-pub extern "C" fn razovinto_search(run: &[u8], answer: &mut [u64]) -> u32 {
+pub extern "C" fn razovinto_search(run: &[u8], answer: &mut [u64]) -> u32
+    ensures { λ r. ⌜ r ≡ returned (ofSearch (searchOf (now (run .entry)))) (now (answer .entry)) ⌝ }
+    ensures { λ r. ⌜ now (answer .exit) ≡ afterwards (ofSearch (searchOf (now (run .entry)))) (now (answer .entry)) ⌝ }
+{
     if answer.len() < FOUND_LENGTH {
         return too_short();
     }

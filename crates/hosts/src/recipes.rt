@@ -1,10 +1,10 @@
 // The run of a recipe, and its shape alone.
 use crate::answer::put_two;
 use crate::answer::too_short;
-use crate::state::RUN_LENGTH;
 use crate::state::put_answer;
+use crate::state::put_marks;
+use crate::state::put_numbers;
 use crate::state::put_phase;
-use crate::state::put_places;
 use checked::types::Checked64;
 use recipe::run::run;
 use recipe::types::Answer;
@@ -12,11 +12,21 @@ use recipe::types::Run;
 use shape::shape::shape;
 use shape::types::Shape;
 ghost use mathlib.Core.Path.{_≡_};
+ghost use mathlib.Core.List.{[], _∷_};
 ghost use Prim.Native.Nat.{_≤_};
 ghost use lib.ListN.{length};
+ghost use lib.Seq.{sets};
+ghost use Rattle.checked.specs.Paper.{given};
+ghost use Rattle.shape.specs.Shape.{shapeOf};
+ghost use Rattle.recipe.specs.Run.{answerOf, paper, runOf};
+ghost use Rattle.hosts.specs.Entry.{returned, afterwards};
+ghost use Rattle.hosts.specs.Answers.{ofShape, ofRun};
 
 // The refusal's place, or 0 with the largest number of the width.
 const SHAPE_LENGTH: usize = 2;
+
+// The answer, the steps and the items done, the phase with its numbers, and the hand's 32 marks and numbers.
+const RUN_LENGTH: usize = 78;
 
 #[no_mangle]
 pub extern "C" fn razovinto_shape(
@@ -24,7 +34,15 @@ pub extern "C" fn razovinto_shape(
     kinds: &[u8],
     numbers: &[u64],
     answer: &mut [u64],
-) -> u32 {
+) -> u32
+    ensures { λ r. ⌜
+        r ≡ returned (ofShape (shapeOf width (now (kinds .entry)) (now (numbers .entry)))) (now (answer .entry))
+        ⌝ }
+    ensures { λ r. ⌜
+        now (answer .exit) ≡
+        afterwards (ofShape (shapeOf width (now (kinds .entry)) (now (numbers .entry)))) (now (answer .entry))
+        ⌝ }
+{
     if answer.len() < SHAPE_LENGTH {
         return too_short();
     }
@@ -40,42 +58,55 @@ pub extern "C" fn razovinto_shape(
     }
 }
 
-fn put_value(result: &mut [u64], value: Checked64, steps: u64, done: u64)
-    requires { ⌜ 78 ≤ length (now result) ⌝ }
-    ensures { λ r. ⌜ length (now (result .exit)) ≡ length (now (result .entry)) ⌝ }
+fn put_value(lent: &mut [u64], value: Checked64, steps: u64, done: u64)
+    requires { ⌜ 78 ≤ length (now lent) ⌝ }
+    ensures { λ r. ⌜
+        now (lent .exit) ≡
+        sets (now (lent .entry)) 0 (0 ∷ given value .mark ∷ given value .number ∷ steps ∷ done ∷ [])
+        ⌝ }
 {
     match value {
-        Checked64::Fits(n) => put_answer(result, 0, 0, n, steps, done),
-        Checked64::Overflowed => put_answer(result, 0, 1, 0, steps, done),
+        Checked64::Fits(n) => put_answer(lent, 0, 0, n, steps, done),
+        Checked64::Overflowed => put_answer(lent, 0, 1, 0, steps, done),
     }
 }
 
-fn put_outcome(result: &mut [u64], answer: Answer, steps: u64, done: u64) -> u32
-    requires { ⌜ 78 ≤ length (now result) ⌝ }
-    ensures { λ r. ⌜ length (now (result .exit)) ≡ length (now (result .entry)) ⌝ }
+// The answer with the steps and the items done.
+fn put_outcome(lent: &mut [u64], answer: Answer, steps: u64, done: u64) -> u32
+    requires { ⌜ 78 ≤ length (now lent) ⌝ }
+    ensures { λ r. ⌜ r ≡ answerOf answer .code ⌝ }
+    ensures { λ r. ⌜
+        now (lent .exit) ≡
+        sets (now (lent .entry)) 0
+        (answerOf answer .place ∷ answerOf answer .mark ∷ answerOf answer .number ∷ steps ∷ done ∷ [])
+        ⌝ }
 {
     match answer {
         Answer::Value(value) => {
-            put_value(result, value, steps, done);
+            put_value(lent, value, steps, done);
             0
         }
         Answer::Refused(refusal, place) => {
-            put_answer(result, place, 0, 0, steps, done);
+            put_answer(lent, place, 0, 0, steps, done);
             refusal.number()
         }
     }
 }
 
-fn put_run(result: &mut [u64], shown: Run) -> u32
-    requires { ⌜ 78 ≤ length (now result) ⌝ }
+// The whole of what a run shows.
+fn put_run(lent: &mut [u64], shown: Run) -> u32
+    requires { ⌜ 78 ≤ length (now lent) ⌝ }
+    ensures { λ r. ⌜ r ≡ ofRun (paper shown) .code ⌝ }
+    ensures { λ r. ⌜ now (lent .exit) ≡ sets (now (lent .entry)) 0 (ofRun (paper shown) .words) ⌝ }
 {
     let answer = shown.answer;
     let phase = shown.phase;
     let marks = shown.marks;
     let numbers = shown.numbers;
-    let code = put_outcome(result, answer, shown.steps, shown.done);
-    put_phase(result, phase);
-    put_places(result, &marks, &numbers);
+    let code = put_outcome(lent, answer, shown.steps, shown.done);
+    put_phase(lent, phase);
+    put_marks(lent, &marks);
+    put_numbers(lent, &numbers);
     code
 }
 
@@ -86,7 +117,15 @@ pub extern "C" fn razovinto_run(
     numbers: &[u64],
     allowance: u64,
     answer: &mut [u64],
-) -> u32 {
+) -> u32
+    ensures { λ r. ⌜
+        r ≡ returned (ofRun (runOf width (now (kinds .entry)) (now (numbers .entry)) allowance)) (now (answer .entry))
+        ⌝ }
+    ensures { λ r. ⌜
+        now (answer .exit) ≡
+        afterwards (ofRun (runOf width (now (kinds .entry)) (now (numbers .entry)) allowance)) (now (answer .entry))
+        ⌝ }
+{
     if answer.len() < RUN_LENGTH {
         return too_short();
     }

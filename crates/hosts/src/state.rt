@@ -1,127 +1,142 @@
-// A run's answer and state, part by part, in a lent list.
+// A run's answer and state in a lent list, part by part.
 use checked::types::Checked64;
 use steps::types::Logarithm;
 use steps::types::Phase;
 use steps::types::Power;
 ghost use mathlib.Core.Path.{_≡_};
+ghost use mathlib.Core.List.{[], _∷_};
 ghost use Prim.Native.Nat.{_≤_};
-ghost use lib.ListN.{length};
+ghost use lib.ListN.{length, getD};
+ghost use lib.Seq.{sets};
+ghost use Rattle.steps.specs.declared.types.Phase.the-variants.{Between, InPower, InLogarithm};
+ghost use Rattle.places.specs.Places.{table};
+ghost use Rattle.recipe.specs.Run.{markOf, numberIn, phaseNumbers};
+ghost use Rattle.hosts.specs.Answers.{phaseWords};
 
-// How many numbers a run's answer has: five of the answer, the phase's nine, and the 32 places' marks and numbers.
-pub const RUN_LENGTH: usize = 78;
-
-fn mark_of(value: Checked64) -> u64 {
+fn mark_of(value: Checked64) -> u64
+    ensures { λ r. ⌜ r ≡ markOf value ⌝ }
+{
     match value {
         Checked64::Fits(_) => 0,
         Checked64::Overflowed => 1,
     }
 }
 
-fn number_in(value: Checked64) -> u64 {
+fn number_in(value: Checked64) -> u64
+    ensures { λ r. ⌜ r ≡ numberIn value ⌝ }
+{
     match value {
         Checked64::Fits(n) => n,
         Checked64::Overflowed => 0,
     }
 }
 
+// The value or the refusal's place, the steps taken and the items done.
 pub(crate) fn put_answer(
-    answer: &mut [u64],
+    lent: &mut [u64],
     place: u64,
     mark: u64,
     number: u64,
     steps: u64,
     done: u64,
 )
-    requires { ⌜ 78 ≤ length (now answer) ⌝ }
-    ensures { λ r. ⌜ length (now (answer .exit)) ≡ length (now (answer .entry)) ⌝ }
+    requires { ⌜ 78 ≤ length (now lent) ⌝ }
+    ensures { λ r. ⌜ now (lent .exit) ≡ sets (now (lent .entry)) 0 (place ∷ mark ∷ number ∷ steps ∷ done ∷ []) ⌝ }
 {
-    answer[0] = place;
-    answer[1] = mark;
-    answer[2] = number;
-    answer[3] = steps;
-    answer[4] = done;
+    lent[0] = place;
+    lent[1] = mark;
+    lent[2] = number;
+    lent[3] = steps;
+    lent[4] = done;
 }
 
-fn put_phase_numbers(
-    answer: &mut [u64],
-    kind: u64,
-    first_mark: u64,
-    first: u64,
-    second_mark: u64,
-    second: u64,
-    exponent: u64,
-    base: u64,
-    left: u64,
-    count: u64,
-)
-    requires { ⌜ 78 ≤ length (now answer) ⌝ }
-    ensures { λ r. ⌜ length (now (answer .exit)) ≡ length (now (answer .entry)) ⌝ }
+fn put_between(lent: &mut [u64])
+    requires { ⌜ 78 ≤ length (now lent) ⌝ }
+    ensures { λ r. ⌜ now (lent .exit) ≡ sets (now (lent .entry)) 5 (phaseWords (phaseNumbers Between)) ⌝ }
 {
-    answer[5] = kind;
-    answer[6] = first_mark;
-    answer[7] = first;
-    answer[8] = second_mark;
-    answer[9] = second;
-    answer[10] = exponent;
-    answer[11] = base;
-    answer[12] = left;
-    answer[13] = count;
+    lent[5] = 0;
+    lent[6] = 0;
+    lent[7] = 0;
+    lent[8] = 0;
+    lent[9] = 0;
+    lent[10] = 0;
+    lent[11] = 0;
+    lent[12] = 0;
+    lent[13] = 0;
 }
 
-fn put_power(answer: &mut [u64], power: Power)
-    requires { ⌜ 78 ≤ length (now answer) ⌝ }
-    ensures { λ r. ⌜ length (now (answer .exit)) ≡ length (now (answer .entry)) ⌝ }
+fn put_power(lent: &mut [u64], power: Power)
+    requires { ⌜ 78 ≤ length (now lent) ⌝ }
+    ensures { λ r. ⌜ now (lent .exit) ≡ sets (now (lent .entry)) 5 (phaseWords (phaseNumbers (InPower power))) ⌝ }
 {
     let first = power.first;
     let second = power.second;
-    put_phase_numbers(
-        answer,
-        1,
-        mark_of(first),
-        number_in(first),
-        mark_of(second),
-        number_in(second),
-        power.exponent,
-        0,
-        0,
-        0,
-    );
+    lent[5] = 1;
+    lent[6] = mark_of(first);
+    lent[7] = number_in(first);
+    lent[8] = mark_of(second);
+    lent[9] = number_in(second);
+    lent[10] = power.exponent;
+    lent[11] = 0;
+    lent[12] = 0;
+    lent[13] = 0;
 }
 
-pub(crate) fn put_phase(answer: &mut [u64], phase: Phase)
-    requires { ⌜ 78 ≤ length (now answer) ⌝ }
-    ensures { λ r. ⌜ length (now (answer .exit)) ≡ length (now (answer .entry)) ⌝ }
+fn put_logarithm(lent: &mut [u64], logarithm: Logarithm)
+    requires { ⌜ 78 ≤ length (now lent) ⌝ }
+    ensures { λ r. ⌜
+        now (lent .exit) ≡ sets (now (lent .entry)) 5 (phaseWords (phaseNumbers (InLogarithm logarithm)))
+        ⌝ }
+{
+    lent[5] = 2;
+    lent[6] = 0;
+    lent[7] = 0;
+    lent[8] = 0;
+    lent[9] = 0;
+    lent[10] = 0;
+    lent[11] = logarithm.base;
+    lent[12] = logarithm.left;
+    lent[13] = logarithm.count;
+}
+
+// The phase with its numbers.
+pub(crate) fn put_phase(lent: &mut [u64], phase: Phase)
+    requires { ⌜ 78 ≤ length (now lent) ⌝ }
+    ensures { λ r. ⌜ now (lent .exit) ≡ sets (now (lent .entry)) 5 (phaseWords (phaseNumbers phase)) ⌝ }
 {
     match phase {
-        Phase::Between => put_phase_numbers(answer, 0, 0, 0, 0, 0, 0, 0, 0, 0),
-        Phase::InPower(power) => put_power(answer, power),
-        Phase::InLogarithm(logarithm) => put_phase_numbers(
-            answer,
-            2,
-            0,
-            0,
-            0,
-            0,
-            0,
-            logarithm.base,
-            logarithm.left,
-            logarithm.count,
-        ),
+        Phase::Between => put_between(lent),
+        Phase::InPower(power) => put_power(lent, power),
+        Phase::InLogarithm(logarithm) => put_logarithm(lent, logarithm),
     }
 }
 
-pub(crate) fn put_places(answer: &mut [u64], marks: &[u8; 32], numbers: &[u64; 32])
-    requires { ⌜ 78 ≤ length (now answer) ⌝ }
-    ensures { λ r. ⌜ length (now (answer .exit)) ≡ length (now (answer .entry)) ⌝ }
+fn wide(mark: u8) -> u64
+    ensures { λ r. ⌜ r ≡ mark ⌝ }
+{
+    mark as u64
+}
+
+// The marks of the hand's places, bottom first.
+pub(crate) fn put_marks(lent: &mut [u64], marks: &[u8; 32])
+    requires { ⌜ 78 ≤ length (now lent) ⌝ }
+    ensures { λ r. ⌜ now (lent .exit) ≡ sets (now (lent .entry)) 14 (table (λ i. getD (now (marks .entry)) i 0) 32) ⌝ }
 {
     let mut i = 0;
     while i < 32 {
-        answer[14 + i] = marks[i] as u64;
+        lent[14 + i] = wide(marks[i]);
         i = i + 1;
     }
-    i = 0;
+}
+
+// Their numbers.
+pub(crate) fn put_numbers(lent: &mut [u64], numbers: &[u64; 32])
+    requires { ⌜ 78 ≤ length (now lent) ⌝ }
+    ensures { λ r. ⌜ now (lent .exit) ≡ sets (now (lent .entry)) 46 (table (λ i. getD (now (numbers .entry)) i 0) 32) ⌝ }
+{
+    let mut i = 0;
     while i < 32 {
-        answer[46 + i] = numbers[i];
+        lent[46 + i] = numbers[i];
         i = i + 1;
     }
 }

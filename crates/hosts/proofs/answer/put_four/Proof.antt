@@ -1,0 +1,36 @@
+-- `answer::put_four` meets its contract.
+-- Assumes nothing.
+use native.Mathlib.Omega.{arith}
+use lib.ListN.{length-set}
+use borrow.Author.Needs.{needs}
+use Rattle.hosts.proofs.answer.put_four.Statement.{statement}
+use Rattle.hosts.proofs.answer.put_four.Tie as tie
+
+slice-write-answer : tie.Need-slice-write-answer
+slice-write-answer c = search needs
+
+slice-write-answer-2 : tie.Need-slice-write-answer-2
+slice-write-answer-2 c = simp length-set (omega arith)
+
+slice-write-answer-3 : tie.Need-slice-write-answer-3
+slice-write-answer-3 c = simp length-set (omega arith)
+
+slice-write-answer-4 : tie.Need-slice-write-answer-4
+slice-write-answer-4 c = search needs
+
+same-length : tie.Need-same-length
+same-length c = search needs
+
+returns : tie.Need-returns
+returns c = search needs
+
+pub put-four-spec : {M : Type 1} → statement M
+put-four-spec =
+    tie.close
+    (tie.spec
+    slice-write-answer
+    slice-write-answer-2
+    slice-write-answer-3
+    slice-write-answer-4
+    same-length
+    returns)

@@ -1,0 +1,63 @@
+-- `recipes::put_outcome` meets its contract.
+-- Assumes nothing.
+use mathlib.Core.Path.{ap, _∙_}
+use mathlib.Core.List.{[], _∷_}
+use lib.Seq.{sets}
+use Rattle.checked.specs.Paper.{given}
+use Rattle.recipe.specs.Run.{answerOf}
+use Rattle.hosts.proofs.Runs.{value-code, value-place}
+use Rattle.checked.proofs.Arms.{at}
+use borrow.Author.Needs.{needs}
+use Rattle.hosts.proofs.recipes.put_outcome.Statement.{statement}
+use Rattle.hosts.proofs.recipes.put_outcome.Tie as tie
+
+enum-known-answer : tie.Need-enum-known-answer
+enum-known-answer c = search needs
+
+put-value-requires : tie.Need-put-value-requires
+put-value-requires c κs = search needs
+
+enum-known-answer-2 : tie.Need-enum-known-answer-2
+enum-known-answer-2 c = search needs
+
+put-answer-requires : tie.Need-put-answer-requires
+put-answer-requires c κs = search needs
+
+number-requires : tie.Need-number-requires
+number-requires c κs = search needs
+
+same-length : tie.Need-same-length
+same-length c = search needs
+
+returns : tie.Need-returns
+returns c =
+    let g = c .before .before .before .before .before .before .before .before .args in
+    let a = c .before .before .before .before .before .answer .given in
+    let v = a .0 .0 in
+    let e =
+    c .before .before .put-value .ensures
+    ∙ ap (λ p. sets (g .lent .now) 0 (p ∷ given v .mark ∷ given v .number ∷ g .steps ∷ g .done ∷ [])) (value-place v) in (
+      at (λ x. answerOf x .code) (value-code v) (a .1),
+      at (λ x. sets (g .lent .now) 0 (answerOf x .place ∷ answerOf x .mark ∷ answerOf x .number ∷ g .steps ∷ g .done ∷ []))
+          e (a .1),
+    )
+
+same-length-2 : tie.Need-same-length-2
+same-length-2 c = search needs
+
+returns-2 : tie.Need-returns-2
+returns-2 c = let g = c .before .before .before .before .before .before .before .before .before .args in let e = c .before .before .before .before .before .before .answer2 .given .1 in (at (λ a. answerOf a .code) (c .number .ensures) e, at (λ a. sets (g .lent .now) 0 (answerOf a .place ∷ answerOf a .mark ∷ answerOf a .number ∷ g .steps ∷ g .done ∷ [])) (c .before .before .before .put-answer .ensures) e)
+
+pub put-outcome-spec : {M : Type 1} → statement M
+put-outcome-spec =
+    tie.close
+    (tie.spec
+    enum-known-answer
+    put-value-requires
+    enum-known-answer-2
+    put-answer-requires
+    number-requires
+    same-length
+    returns
+    same-length-2
+    returns-2)

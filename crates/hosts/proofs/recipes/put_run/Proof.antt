@@ -1,0 +1,49 @@
+-- `recipes::put_run` meets its contract.
+-- Assumes nothing.
+use mathlib.Core.Path.{_≡_}
+use lib.ListN.{length}
+use Rattle.recipe.specs.Run.{paper}
+use Rattle.hosts.proofs.Runs.{run-stored}
+use borrow.Author.Needs.{needs}
+use Rattle.hosts.proofs.recipes.put_run.Statement.{statement}
+use Rattle.hosts.proofs.recipes.put_run.Tie as tie
+
+put-outcome-requires : tie.Need-put-outcome-requires
+put-outcome-requires c κs = search needs
+
+put-phase-requires : tie.Need-put-phase-requires
+put-phase-requires c κs = search needs
+
+put-marks-requires : tie.Need-put-marks-requires
+put-marks-requires c κs = search needs
+
+put-numbers-requires : tie.Need-put-numbers-requires
+put-numbers-requires c κs = search needs
+
+same-length : tie.Need-same-length
+same-length c = search needs
+
+returns : tie.Need-returns
+returns c =
+    let g = c .before .before .before .before .before .before .before .before .before .before .before .before .before .before .before .before .before .before .before .before .before .args in
+    let m : length (g .shown .marks) ≡ 32 = search needs in
+    let n : length (g .shown .numbers) ≡ 32 = search needs in
+    let a = c .before .before .before .before .before .before .before .before .before .before .before .before .before .before .before .before .put-outcome in
+    let p = c .before .before .before .before .before .before .before .before .before .before .before .before .put-phase in
+    let k = c .before .before .before .before .before .before .before .put-marks in
+    let l = c .before .before .put-numbers in (
+      a .ensures .0,
+      run-stored (paper (g .shown)) (g .lent .now) (a .last .0) (p .last .0) (k .last .0) (l .last .0) m n (a .ensures .1)
+          (p .ensures) (k .ensures) (l .ensures),
+    )
+
+pub put-run-spec : {M : Type 1} → statement M
+put-run-spec =
+    tie.close
+    (tie.spec
+    put-outcome-requires
+    put-phase-requires
+    put-marks-requires
+    put-numbers-requires
+    same-length
+    returns)

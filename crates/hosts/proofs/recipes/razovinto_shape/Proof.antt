@@ -1,0 +1,63 @@
+-- `recipes::razovinto_shape` meets its contract.
+-- Assumes nothing.
+use mathlib.Core.Path.{refl}
+use Rattle.shape.specs.Shape.{shapeOf}
+use Rattle.shape.specs.Answers.{verdict}
+use Rattle.hosts.specs.Answers.{ofShape}
+use Rattle.hosts.proofs.Entries.{short-gives, arm}
+use borrow.Author.Needs.{needs}
+use Rattle.hosts.proofs.recipes.razovinto_shape.Statement.{statement}
+use Rattle.hosts.proofs.recipes.razovinto_shape.Tie as tie
+
+too-short-requires : tie.Need-too-short-requires
+too-short-requires c κs = search needs
+
+returns : tie.Need-returns
+returns c = let g = c .before .before .before .before .before .args in short-gives (ofShape (shapeOf (g .width) (g .kinds .now) (g .numbers .now))) (g .answer .now) (c .before .if1 .taken) (c .too-short .ensures)
+
+shape-requires : tie.Need-shape-requires
+shape-requires c κs = search needs
+
+enum-known-limit : tie.Need-enum-known-limit
+enum-known-limit c = search needs
+
+put-two-requires : tie.Need-put-two-requires
+put-two-requires c κs = search needs
+
+enum-known-refusal : tie.Need-enum-known-refusal
+enum-known-refusal c = search needs
+
+put-two-requires-2 : tie.Need-put-two-requires-2
+put-two-requires-2 c κs = search needs
+
+number-requires : tie.Need-number-requires
+number-requires c κs = search needs
+
+same-length : tie.Need-same-length
+same-length c = search needs
+
+returns-2 : tie.Need-returns-2
+returns-2 c = arm verdict ofShape (c .before .before .before .before .before .before .before .before .before .before .before .before .args .answer .now) (c .before .before .before .before .before .before .before .before .if1 .left) refl (c .before .before .put-two .ensures) (c .before .before .before .before .before .limit .given .1) (c .before .before .before .before .before .before .before .shape .ensures)
+
+same-length-2 : tie.Need-same-length-2
+same-length-2 c = search needs
+
+returns-3 : tie.Need-returns-3
+returns-3 c = arm verdict ofShape (c .before .before .before .before .before .before .before .before .before .before .before .before .before .args .answer .now) (c .before .before .before .before .before .before .before .before .before .if1 .left) (c .number .ensures) (c .before .before .before .put-two2 .ensures) (c .before .before .before .before .before .before .refusal .given .1) (c .before .before .before .before .before .before .before .before .shape .ensures)
+
+pub razovinto-shape-spec : {M : Type 1} → statement M
+razovinto-shape-spec =
+    tie.close
+    (tie.spec
+    too-short-requires
+    returns
+    shape-requires
+    enum-known-limit
+    put-two-requires
+    enum-known-refusal
+    put-two-requires-2
+    number-requires
+    same-length
+    returns-2
+    same-length-2
+    returns-3)

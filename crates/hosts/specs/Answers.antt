@@ -1,0 +1,57 @@
+-- Each answer as an entry gives it: the number that is returned, and those that are written, a refusal's place first.
+-- Assumes nothing.
+use mathlib.Core.Bool.{cond}
+use mathlib.Core.List.{List, [], _∷_, _++_}
+use Prim.Native.Nat.{ℕ}
+use lib.Dec.{eqb}
+use lib.ListN.{getD}
+use Rattle.shape.specs.Shape.{Verdict}
+use Rattle.recipe.specs.Run.{Shown}
+use Rattle.field.specs.Range.{Scanned}
+use Rattle.layout.specs.Reading.{Reading, readingOf, numbersAfter, marksAfter}
+use Rattle.search.specs.Search.{Searched}
+use Rattle.hosts.specs.Entry.{Told, besides}
+
+abbrev pub ofShape : Verdict → Told
+ofShape v = record { code = v .code; words = v .place ∷ v .limit ∷ [] }
+
+abbrev pub ofScan : Scanned → Told
+ofScan s = record { code = s .code; words = s .place ∷ s .least ∷ s .greatest ∷ s .width ∷ [] }
+
+abbrev pub ofReading : Reading → Told
+ofReading r = record { code = r .code; words = r .place ∷ r .number ∷ r .count ∷ [] }
+
+-- the reader's two lists, which stay where its answer has no room
+abbrev pub numbersBeside : (b numbers marks lent : List ℕ) → List ℕ
+numbersBeside b numbers marks lent =
+    besides (ofReading (readingOf b numbers marks)) lent (numbersAfter b numbers marks) numbers
+
+abbrev pub marksBeside : (b numbers marks lent : List ℕ) → List ℕ
+marksBeside b numbers marks lent =
+    besides (ofReading (readingOf b numbers marks)) lent (marksAfter b numbers marks) marks
+
+abbrev pub ofSearch : Searched → Told
+ofSearch s = record { code = s .code; words = s .place ∷ s .found ∷ s .position ∷ s .within ∷ [] }
+
+-- ---- a run
+
+-- number j of a run's phase where it is this one, and 0 where it is another
+abbrev pub within : ℕ → List ℕ → ℕ → ℕ
+within which phase j = cond (eqb (getD phase 0 0) which) (getD phase j 0) 0
+
+-- the phase, then a power's five numbers, then a logarithm's three
+abbrev pub phaseWords : List ℕ → List ℕ
+phaseWords phase =
+    getD phase 0 0
+    ∷ within 1 phase 1 ∷ within 1 phase 2 ∷ within 1 phase 3 ∷ within 1 phase 4 ∷ within 1 phase 5
+    ∷ within 2 phase 1 ∷ within 2 phase 2 ∷ within 2 phase 3 ∷ []
+
+-- the answer, the steps taken, the items done, the phase, and the hand's 32 marks and numbers, bottom first
+abbrev pub ofRun : Shown → Told
+ofRun s =
+    record {
+      code = s .answer .code;
+      words =
+          s .answer .place ∷ s .answer .mark ∷ s .answer .number ∷ s .steps ∷ s .done
+          ∷ phaseWords (s .phase) ++ s .marks ++ s .numbers;
+    }
