@@ -191,8 +191,8 @@ struct razovinto_run {
     struct {
         uint64_t base, left, count;
     } logarithm;
-    uint64_t on_hand_overflowed[RAZOVINTO_PLACES]; /* the hand, bottom first; an unused place is 0 */
-    uint64_t on_hand[RAZOVINTO_PLACES];
+    uint8_t on_hand_overflowed[RAZOVINTO_PLACES]; /* the hand, bottom first: its marks, 1 where a place is overflowed */
+    uint64_t on_hand[RAZOVINTO_PLACES];           /* and its numbers; an unused place is 0 in both */
 };
 
 /* Runs a recipe at a width of 8, 16, 32 or 64 bits, for at most `allowance` steps. Refused with 5 to 13 for its shape,

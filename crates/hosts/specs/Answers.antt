@@ -5,6 +5,7 @@ use mathlib.Core.List.{List, [], _∷_, _++_}
 use Prim.Native.Nat.{ℕ}
 use lib.Dec.{eqb}
 use lib.ListN.{getD}
+use Rattle.little.specs.Bytes.{part, little}
 use Rattle.shape.specs.Shape.{Verdict}
 use Rattle.recipe.specs.Run.{Shown}
 use Rattle.field.specs.Range.{Scanned}
@@ -46,6 +47,11 @@ phaseWords phase =
     ∷ within 1 phase 1 ∷ within 1 phase 2 ∷ within 1 phase 3 ∷ within 1 phase 4 ∷ within 1 phase 5
     ∷ within 2 phase 1 ∷ within 2 phase 2 ∷ within 2 phase 3 ∷ []
 
+-- the 32 marks in four numbers of eight bytes, the lowest first: so they lie in memory as 32 bytes
+abbrev pub markWords : List ℕ → List ℕ
+markWords marks =
+    little (part 0 8 marks) ∷ little (part 8 8 marks) ∷ little (part 16 8 marks) ∷ little (part 24 8 marks) ∷ []
+
 -- the answer, the steps taken, the items done, the phase, and the hand's 32 marks and numbers, bottom first
 abbrev pub ofRun : Shown → Told
 ofRun s =
@@ -53,5 +59,5 @@ ofRun s =
       code = s .answer .code;
       words =
           s .answer .place ∷ s .answer .mark ∷ s .answer .number ∷ s .steps ∷ s .done
-          ∷ phaseWords (s .phase) ++ s .marks ++ s .numbers;
+          ∷ phaseWords (s .phase) ++ markWords (s .marks) ++ s .numbers;
     }

@@ -25,8 +25,8 @@ ghost use Rattle.hosts.specs.Answers.{ofShape, ofRun};
 // The refusal's place, or 0 with the largest number of the width.
 const SHAPE_LENGTH: usize = 2;
 
-// The answer, the steps and the items done, the phase with its numbers, and the hand's 32 marks and numbers.
-const RUN_LENGTH: usize = 78;
+// The answer, the steps and the items done, the phase with its numbers, the hand's 32 marks in four numbers, and its 32 numbers.
+const RUN_LENGTH: usize = 50;
 
 #[no_mangle]
 pub extern "C" fn razovinto_shape(
@@ -59,7 +59,7 @@ pub extern "C" fn razovinto_shape(
 }
 
 fn put_value(lent: &mut [u64], value: Checked64, steps: u64, done: u64)
-    requires { ⌜ 78 ≤ length (now lent) ⌝ }
+    requires { ⌜ 50 ≤ length (now lent) ⌝ }
     ensures { λ r. ⌜
         now (lent .exit) ≡
         sets (now (lent .entry)) 0 (0 ∷ given value .mark ∷ given value .number ∷ steps ∷ done ∷ [])
@@ -73,7 +73,7 @@ fn put_value(lent: &mut [u64], value: Checked64, steps: u64, done: u64)
 
 // The answer with the steps and the items done.
 fn put_outcome(lent: &mut [u64], answer: Answer, steps: u64, done: u64) -> u32
-    requires { ⌜ 78 ≤ length (now lent) ⌝ }
+    requires { ⌜ 50 ≤ length (now lent) ⌝ }
     ensures { λ r. ⌜ r ≡ answerOf answer .code ⌝ }
     ensures { λ r. ⌜
         now (lent .exit) ≡
@@ -95,7 +95,7 @@ fn put_outcome(lent: &mut [u64], answer: Answer, steps: u64, done: u64) -> u32
 
 // The whole of what a run shows.
 fn put_run(lent: &mut [u64], shown: Run) -> u32
-    requires { ⌜ 78 ≤ length (now lent) ⌝ }
+    requires { ⌜ 50 ≤ length (now lent) ⌝ }
     ensures { λ r. ⌜ r ≡ ofRun (paper shown) .code ⌝ }
     ensures { λ r. ⌜ now (lent .exit) ≡ sets (now (lent .entry)) 0 (ofRun (paper shown) .words) ⌝ }
 {

@@ -1,17 +1,19 @@
 // A run's answer and state in a lent list, part by part.
 use checked::types::Checked64;
+use little::bytes::long;
 use steps::types::Logarithm;
 use steps::types::Phase;
 use steps::types::Power;
 ghost use mathlib.Core.Path.{_≡_};
 ghost use mathlib.Core.List.{[], _∷_};
-ghost use Prim.Native.Nat.{_≤_};
+ghost use Prim.Native.Nat.{_+_, _≤_};
 ghost use lib.ListN.{length, getD};
 ghost use lib.Seq.{sets};
 ghost use Rattle.steps.specs.declared.types.Phase.the-variants.{Between, InPower, InLogarithm};
+ghost use Rattle.little.specs.Bytes.{part, little};
 ghost use Rattle.places.specs.Places.{table};
 ghost use Rattle.recipe.specs.Run.{markOf, numberIn, phaseNumbers};
-ghost use Rattle.hosts.specs.Answers.{phaseWords};
+ghost use Rattle.hosts.specs.Answers.{phaseWords, markWords};
 
 fn mark_of(value: Checked64) -> u64
     ensures { λ r. ⌜ r ≡ markOf value ⌝ }
@@ -40,7 +42,7 @@ pub(crate) fn put_answer(
     steps: u64,
     done: u64,
 )
-    requires { ⌜ 78 ≤ length (now lent) ⌝ }
+    requires { ⌜ 50 ≤ length (now lent) ⌝ }
     ensures { λ r. ⌜ now (lent .exit) ≡ sets (now (lent .entry)) 0 (place ∷ mark ∷ number ∷ steps ∷ done ∷ []) ⌝ }
 {
     lent[0] = place;
@@ -51,7 +53,7 @@ pub(crate) fn put_answer(
 }
 
 fn put_between(lent: &mut [u64])
-    requires { ⌜ 78 ≤ length (now lent) ⌝ }
+    requires { ⌜ 50 ≤ length (now lent) ⌝ }
     ensures { λ r. ⌜ now (lent .exit) ≡ sets (now (lent .entry)) 5 (phaseWords (phaseNumbers Between)) ⌝ }
 {
     lent[5] = 0;
@@ -66,7 +68,7 @@ fn put_between(lent: &mut [u64])
 }
 
 fn put_power(lent: &mut [u64], power: Power)
-    requires { ⌜ 78 ≤ length (now lent) ⌝ }
+    requires { ⌜ 50 ≤ length (now lent) ⌝ }
     ensures { λ r. ⌜ now (lent .exit) ≡ sets (now (lent .entry)) 5 (phaseWords (phaseNumbers (InPower power))) ⌝ }
 {
     let first = power.first;
@@ -83,7 +85,7 @@ fn put_power(lent: &mut [u64], power: Power)
 }
 
 fn put_logarithm(lent: &mut [u64], logarithm: Logarithm)
-    requires { ⌜ 78 ≤ length (now lent) ⌝ }
+    requires { ⌜ 50 ≤ length (now lent) ⌝ }
     ensures { λ r. ⌜
         now (lent .exit) ≡ sets (now (lent .entry)) 5 (phaseWords (phaseNumbers (InLogarithm logarithm)))
         ⌝ }
@@ -101,7 +103,7 @@ fn put_logarithm(lent: &mut [u64], logarithm: Logarithm)
 
 // The phase with its numbers.
 pub(crate) fn put_phase(lent: &mut [u64], phase: Phase)
-    requires { ⌜ 78 ≤ length (now lent) ⌝ }
+    requires { ⌜ 50 ≤ length (now lent) ⌝ }
     ensures { λ r. ⌜ now (lent .exit) ≡ sets (now (lent .entry)) 5 (phaseWords (phaseNumbers phase)) ⌝ }
 {
     match phase {
@@ -111,32 +113,42 @@ pub(crate) fn put_phase(lent: &mut [u64], phase: Phase)
     }
 }
 
-fn wide(mark: u8) -> u64
-    ensures { λ r. ⌜ r ≡ mark ⌝ }
+// Eight marks as one number, the first its lowest byte.
+fn eight_at(marks: &[u8; 32], at: usize) -> u64
+    requires { ⌜ (at + 8 ≤ 32) × (length (now marks) ≡ 32) ⌝ }
+    ensures { λ r. ⌜ r ≡ little (part at 8 (now (marks .entry))) ⌝ }
 {
-    mark as u64
+    long(
+        marks[at],
+        marks[at + 1],
+        marks[at + 2],
+        marks[at + 3],
+        marks[at + 4],
+        marks[at + 5],
+        marks[at + 6],
+        marks[at + 7],
+    )
 }
 
-// The marks of the hand's places, bottom first.
+// The marks of the hand's places, bottom first. In memory they are 32 bytes.
 pub(crate) fn put_marks(lent: &mut [u64], marks: &[u8; 32])
-    requires { ⌜ 78 ≤ length (now lent) ⌝ }
-    ensures { λ r. ⌜ now (lent .exit) ≡ sets (now (lent .entry)) 14 (table (λ i. getD (now (marks .entry)) i 0) 32) ⌝ }
+    requires { ⌜ (50 ≤ length (now lent)) × (length (now marks) ≡ 32) ⌝ }
+    ensures { λ r. ⌜ now (lent .exit) ≡ sets (now (lent .entry)) 14 (markWords (now (marks .entry))) ⌝ }
 {
-    let mut i = 0;
-    while i < 32 {
-        lent[14 + i] = wide(marks[i]);
-        i = i + 1;
-    }
+    lent[14] = eight_at(marks, 0);
+    lent[15] = eight_at(marks, 8);
+    lent[16] = eight_at(marks, 16);
+    lent[17] = eight_at(marks, 24);
 }
 
 // Their numbers.
 pub(crate) fn put_numbers(lent: &mut [u64], numbers: &[u64; 32])
-    requires { ⌜ 78 ≤ length (now lent) ⌝ }
-    ensures { λ r. ⌜ now (lent .exit) ≡ sets (now (lent .entry)) 46 (table (λ i. getD (now (numbers .entry)) i 0) 32) ⌝ }
+    requires { ⌜ 50 ≤ length (now lent) ⌝ }
+    ensures { λ r. ⌜ now (lent .exit) ≡ sets (now (lent .entry)) 18 (table (λ i. getD (now (numbers .entry)) i 0) 32) ⌝ }
 {
     let mut i = 0;
     while i < 32 {
-        lent[46 + i] = numbers[i];
+        lent[18 + i] = numbers[i];
         i = i + 1;
     }
 }

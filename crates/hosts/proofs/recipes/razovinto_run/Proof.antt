@@ -39,9 +39,8 @@ returns-2 c =
     let h = c .before .before .before .before .before .if1 .left in
     let r = c .before .before .before .run in
     let s = c .before .before .put-run .ensures in
-    let m : length (r .result .marks) ≡ 32 = search needs in
     let n : length (r .result .numbers) ≡ 32 = search needs in
-    let w = run-words (paper (r .result)) m n in
+    let w = run-words (paper (r .result)) n in
     let room : length (ofRun (paper (r .result)) .words) ≤ length (g .answer .now) = omega arith in
     arm paper ofRun (g .answer .now) {x = r .result} room (s .0) (s .1) refl (r .ensures)
 

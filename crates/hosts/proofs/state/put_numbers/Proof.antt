@@ -12,13 +12,13 @@ use Rattle.hosts.proofs.state.put_numbers.Statement.{statement}
 use Rattle.hosts.proofs.state.put_numbers.Tie as tie
 
 abbrev Inv-loop : tie.InvT-loop
-Inv-loop lent₀ numbers i₀ lent i = (lent ≡ sets lent₀ 46 (table (λ j. getD numbers j 0) i)) × (length lent ≡ length lent₀) × (i ≤ 32)
+Inv-loop lent₀ numbers i₀ lent i = (lent ≡ sets lent₀ 18 (table (λ j. getD numbers j 0) i)) × (length lent ≡ length lent₀) × (i ≤ 32)
 
 abbrev μ-loop : tie.MeasureT-loop
 μ-loop lent₀ numbers i₀ lent i = 32 - i
 
 loop-holds : tie.Need-loop-holds Inv-loop μ-loop
-loop-holds c = (stored-none (λ j. getD (c .args .numbers .now) j 0) 46 (c .args .lent .now), refl, omega arith)
+loop-holds c = (stored-none (λ j. getD (c .args .numbers .now) j 0) 18 (c .args .lent .now), refl, omega arith)
 
 mul-lent : tie.Need-mul-lent Inv-loop μ-loop
 mul-lent c = search needs
@@ -45,7 +45,7 @@ loop-again : tie.Need-loop-again Inv-loop μ-loop
 loop-again c =
     let g = c .before .before .before .args in
     let l = c .before .before .loop in
-    (stored-turn (λ j. getD (g .numbers .now) j 0) 46 (g .lent .now) (l .i) (l .inv .0), simp length-set (l .inv .1), omega arith)
+    (stored-turn (λ j. getD (g .numbers .now) j 0) 18 (g .lent .now) (l .i) (l .inv .0), simp length-set (l .inv .1), omega arith)
 
 same-length : tie.Need-same-length Inv-loop μ-loop
 same-length c = search needs
@@ -54,7 +54,7 @@ returns : tie.Need-returns Inv-loop μ-loop
 returns c =
     let g = c .before .before .args in
     let l = c .before .loop in
-    stored-all (λ j. getD (g .numbers .now) j 0) 46 (g .lent .now) (l .i) 32 (l .inv .0) (omega arith)
+    stored-all (λ j. getD (g .numbers .now) j 0) 18 (g .lent .now) (l .i) 32 (l .inv .0) (omega arith)
 
 pub put-numbers-spec : {M : Type 1} → statement M
 put-numbers-spec =
