@@ -7,6 +7,7 @@ import copy
 import ctypes
 import doctest
 import mmap
+import importlib.util
 import os
 import pickle
 import subprocess
@@ -21,6 +22,7 @@ ROOT = Path(__file__).resolve().parents[2]
 sys.path[:0] = [str(ROOT / "python"), str(ROOT / "tests" / "second")]
 import model
 import razovinto
+import sample
 from razovinto import OVERFLOWED, Block, Field, Found, Range, Refusal, Refused, Run, State
 
 try:
@@ -491,6 +493,18 @@ class Lending(Case):
         there = ctypes.addressof(ctypes.c_char.from_buffer(memory))
         self.assertEqual(self.address(memory, razovinto._BYTES), (there, 100))
 
+    def test_askew(self):
+        """Numbers that are not aligned are copied to where they are."""
+        memory = bytearray(8 + 16)
+        there = ctypes.addressof(ctypes.c_char.from_buffer(memory))
+        for offset in range(8):
+            numbers = memoryview(memory)[offset : offset + 16].cast("Q")
+            numbers[0], numbers[1] = 3, 5
+            address, count = self.address(numbers)
+            self.assertEqual((address % 8, count), (0, 2))
+            self.assertEqual(address == there + offset, (there + offset) % 8 == 0)
+            self.assertEqual(razovinto.scan(numbers), Range(3, 5, 2))
+
     @with_numpy
     def test_no_copy_of_numpy(self):
         numbers = numpy.arange(6, dtype="u8").reshape(2, 3)
@@ -595,6 +609,35 @@ class Library(Case):
         failed, tried = doctest.testmod(razovinto)
         self.assertEqual(failed, 0)
         self.assertGreater(tried, 0)
+
+
+class Examples(Case):
+    def drawn(self, *words):
+        command = [sys.executable, str(ROOT / "examples" / "plateau.py"), *words]
+        return subprocess.run(command, capture_output=True, text=True, check=False)
+
+    def test_plateau(self):
+        """The picture is of the size that a page shows, and its hatched places are those of the sample."""
+        if not importlib.util.find_spec("matplotlib"):
+            ended = self.drawn()
+            self.assertEqual((ended.returncode, ended.stdout), (1, ""))
+            self.assertEqual(ended.stderr, "plateau: matplotlib isn't here, so no picture is drawn\n")
+            return
+        field = [sample.temperature(row, column) for row in range(sample.ROWS) for column in range(sample.COLUMNS)]
+        with tempfile.TemporaryDirectory() as folder:
+            picture = Path(folder, "plateau.png")
+            ended = self.drawn(str(picture))
+            told = f"{field.count(model.OVERFLOWED)} of {len(field)} places are overflowed"
+            self.assertEqual((ended.stdout, ended.stderr), (f"plateau: {picture}, {told}\n", ""))
+            for each in (picture, ROOT / "docs" / "plateau.png"):
+                image = each.read_bytes()
+                self.assertEqual(image[:8], b"\x89PNG\r\n\x1a\n")
+                self.assertIn(int.from_bytes(image[16:20], "big"), range(900, 1201))
+                self.assertLess(len(image), 80000)
+
+    def test_plateau_misused(self):
+        ended = self.drawn("a.png", "b.png")
+        self.assertEqual((ended.returncode, ended.stderr), (1, "usage: examples/plateau.py [FILE]\n"))
 
 
 if __name__ == "__main__":
