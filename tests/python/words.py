@@ -37,7 +37,8 @@ program words
     use, intrinsic :: iso_c_binding, only: c_int32_t
     use razovinto
     implicit none
-    integer(c_int32_t), parameter :: numbers(*) = [integer(c_int32_t) :: %s]
+    integer(c_int32_t), parameter :: numbers(*) = [integer(c_int32_t) :: &
+        %s]
     integer :: i
     do i = 1, size(numbers)
         print '(a)', trim(razovinto_refusal_text(numbers(i)))
@@ -86,7 +87,13 @@ class Comparison:
     def same(self, what, wanted, given):
         if wanted != given:
             self.differences += 1
-            print(f"words: {what} differs\n  wanted {wanted!r}\n  given  {given!r}")
+            print(f"words: {what}: wanted {wanted!r}, given {given!r}")
+
+    def each(self, what, wanted, given):
+        """Two lists, place by place."""
+        self.same(f"how many {what} are", len(wanted), len(given))
+        for place, (one, other) in enumerate(zip(wanted, given)):
+            self.same(f"{what} at place {place}", one, other)
 
 
 def compare_names(comparison, names):
@@ -102,11 +109,11 @@ def compare_fortran(comparison, numbers, expected):
         return
     texts = [text.rstrip() for text in fortran_texts()]
     for number, words in zip(numbers, expected):
-        comparison.same(f"whether the Fortran module has the words of {number}", True, words in texts)
+        comparison.same(f"whether the Fortran module's text has the words of {number}", True, words in texts)
     if shutil.which("gfortran"):
-        program = FORTRAN_PROGRAM % ", ".join(map(str, numbers))
+        program = FORTRAN_PROGRAM % ", &\n        ".join(map(str, numbers))
         options = ["-std=f2018", "-Wall", "-Werror", str(FORTRAN)]
-        comparison.same("the words of Fortran", expected, printed("gfortran", options, program, ".f90"))
+        comparison.each("the Fortran module's words", expected, printed("gfortran", options, program, ".f90"))
     else:
         print("words: left out: the Fortran module compiled, since gfortran isn't here")
 
@@ -122,9 +129,9 @@ def main():
     comparison.same("the header's words past the table", [none] * len(PAST), expected[-len(PAST) :])
     for number, words in zip(sorted(names), expected[1:]):
         comparison.same(f"whether {number} has words of its own", True, bool(words) and expected.count(words) == 1)
-    comparison.same("the words of the Python module", expected, [razovinto.refusal_text(number) for number in numbers])
+    comparison.each("the Python module's words", expected, [razovinto.refusal_text(number) for number in numbers])
     comparison.same("what the Python module says of -1", none, razovinto.refusal_text(-1))
-    comparison.same("the words of razo", expected[1 : len(names) + 1], razo_words())
+    comparison.each("razo's words", expected[1 : len(names) + 1], razo_words())
     compare_fortran(comparison, numbers, expected)
     if comparison.differences:
         sys.exit(1)
