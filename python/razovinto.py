@@ -458,9 +458,12 @@ def _view(given: Any, items: _Items) -> Optional[memoryview]:
 
 def _listed(name: str, given: Any) -> list:
     """What can be gone through as a list; a numpy array of several dimensions as its items in order."""
+    numpy = sys.modules.get("numpy")
+    if numpy is not None and isinstance(given, numpy.ndarray) and given.ndim:
+        if given.dtype.kind not in "buiO":
+            raise TypeError(f"{name} is an array of {given.dtype}, and must be one of whole numbers")
+        return given.ravel().tolist()
     try:
-        if hasattr(given, "ravel") and given.ndim:
-            return given.ravel().tolist()
         return list(given)
     except (TypeError, NotImplementedError):
         raise TypeError(f"{name} is of the type {type(given).__name__}, which is no list of whole numbers") from None
