@@ -1,0 +1,818 @@
+"""Razovinto from Python: checked arithmetic on numbers of 64 bits, recipes, fields and blocks.
+
+One file over the proved shared library, by ctypes; it needs CPython 3.9 or later and no package.
+
+    >>> import razovinto
+    >>> razovinto.sum(2**64 - 1, 1)
+    OVERFLOWED
+    >>> razovinto.run(8, [255, 1, "sum", 0, "product"], 100)
+    Run(value=0, steps=5)
+
+Names as `sum` are Python's too, so import the module and not its names.
+
+What is refused is the exception `Refused`, with the refusal's number, place and words. What is no number or no list at
+all, or is outside 64 bits, never gets to the library: it is a TypeError, OverflowError or ValueError that names the
+parameter. An overflowed value is `OVERFLOWED`.
+
+Lists. A list that is only read may be anything with whole numbers in it. bytes, bytearray, array, memoryview, mmap and
+numpy arrays are lent with no copy where their items have the right type (unsigned, of 64 bits for numbers; of 8 bits,
+or bool, for kinds, marks and blocks), lie one after the other and are aligned; an array of several dimensions then
+counts as its items in order. Everything else is copied number by number, and each is looked at: a float is a
+TypeError, a number below 0 or too large an OverflowError. So nothing is ever cast. A list that is written must be one
+that can be lent, since a copy would not reach the caller. Nobody may write to a lent list during a call.
+
+The library is looked for at RAZOVINTO_LIBRARY where that is set; otherwise in the tree that this file stands in, in
+the prefix that it was installed to, and wherever the machine's loader looks.
+"""
+from __future__ import annotations
+
+import ctypes
+import enum
+import operator
+import os
+import sys
+from array import array
+from typing import Any, Iterable, List, NamedTuple, Optional, Sequence, Tuple, Union
+
+__version__ = "4.0.0"
+
+__all__ = [
+    "BLOCK_SIZE", "BLOCK_VALUES", "Block", "Field", "Found", "KINDS", "OVERFLOWED", "Overflowed", "PLACES", "Range",
+    "Refusal", "Refused", "Run", "State", "WithinLogarithm", "WithinPower", "logarithm", "power", "power_fits",
+    "product", "quotient", "read", "read_run", "refusal_text", "remainder", "run", "scan", "search", "shape",
+    "signed_quotient", "signed_remainder", "sound", "sum",
+]
+
+BLOCK_SIZE = 512  # bytes of a block
+BLOCK_VALUES = 55  # values that a block has at most
+PLACES = 32  # values that may be on hand
+
+# The kinds of a recipe's items, by number.
+KINDS = ("literal", "sum", "product", "quotient", "remainder", "power", "logarithm")
+
+_MOST = 2**64 - 1
+_LEAST_SIGNED, _MOST_SIGNED = -(2**63), 2**63 - 1
+
+
+# ---- Overflowed values
+
+
+class Overflowed:
+    """The class of OVERFLOWED, which is its only value.
+
+    OVERFLOWED stands for some number above the width; which one is not known. It is equal to itself alone, so that
+    `value == OVERFLOWED` and `value is OVERFLOWED` ask the same. It can't be calculated with, ordered or made an int
+    or a float. It has no truth either: `if value:` asks whether a number is 0, and no answer would be right.
+    """
+
+    __slots__ = ()
+
+    def __new__(cls) -> Overflowed:
+        return OVERFLOWED
+
+    def __repr__(self) -> str:
+        return "OVERFLOWED"
+
+    def __bool__(self) -> bool:
+        raise TypeError("an overflowed value is neither true nor false: ask 'value is OVERFLOWED'")
+
+    def __reduce__(self) -> str:
+        return "OVERFLOWED"  # its name here, so that a copy or a pickle of it is itself
+
+
+OVERFLOWED = object.__new__(Overflowed)
+
+Value = Union[int, Overflowed]
+
+
+# ---- Refusals
+
+
+class Refusal(enum.IntEnum):
+    """The refusals' names."""
+
+    DIVISOR_ZERO = 1
+    BASE_BELOW_TWO = 2
+    OVERFLOWED = 3
+    QUOTIENT_TOO_LARGE = 4
+    UNKNOWN_WIDTH = 5
+    LENGTHS_DIFFER = 6
+    ITEM_COUNT = 7
+    UNKNOWN_KIND = 8
+    LITERAL_TOO_LARGE = 9
+    TOO_FEW_ON_HAND = 10
+    HAND_FULL = 11
+    SEVERAL_LEFT = 12
+    NONE_LEFT = 13
+    FIELD_EMPTY = 14
+    BAD_MARK = 15
+    BLOCK_LENGTH = 16
+    WRONG_CHECK = 17
+    BAD_LAYOUT = 18
+    LIST_TOO_SHORT = 19
+    ALLOWANCE_SPENT = 20
+    BLOCK_NUMBER_TOO_LARGE = 21
+    UNUSABLE_READING = 22
+    NOT_WHOLE = 23
+    OTHER_BLOCK_NUMBER = 24
+
+
+_TEXTS = (
+    "not refused",
+    "divisor 0",
+    "base below 2",
+    "overflowed operand",
+    "signed quotient that doesn't fit",
+    "width not 8, 16, 32 or 64",
+    "lists that differ in length",
+    "recipe of 0 items or above 256",
+    "unknown kind, or operation with a number not 0",
+    "literal too large for the width",
+    "operation with fewer than two values on hand",
+    "literal that would be the 33rd on hand",
+    "recipe ends with more than one value",
+    "recipe ends with no value",
+    "field without a value",
+    "mark not 0 or 1, or overflowed with a number not 0",
+    "the block is not 512 bytes",
+    "the check is wrong",
+    "the edition, the count, a mark or a byte that must be zero is wrong",
+    "list too short for what would be written",
+    "allowance spent",
+    "block number above 2^32 - 1",
+    "reading is NaN or infinite",
+    "reading is not a whole number from 0 to 16,777,215",
+    "block has another number",
+)
+
+
+def refusal_text(number: int) -> str:
+    """A refusal in words; of 0 that nothing was refused, and of a number that is no refusal that it is none."""
+    return _TEXTS[number] if 0 <= number < len(_TEXTS) else "no refusal has this number"
+
+
+class Refused(Exception):
+    """The library refused something.
+
+    `number` is the refusal's (Refusal has the names), `words` says it, `place` is where: an item's index, an element's
+    index, a block's position; 0 where the refusal has no place. `run` is what a refused run shows, and None otherwise.
+    """
+
+    def __init__(self, number: int, place: int = 0, run: Optional[State] = None) -> None:
+        super().__init__(number, place, run)
+        self.number = number
+        self.place = place
+        self.run = run
+
+    @property
+    def words(self) -> str:
+        return refusal_text(self.number)
+
+    def __str__(self) -> str:
+        return f"{self.words} (refusal {self.number}, place {self.place})"
+
+
+# ---- Answers
+
+
+class WithinPower(NamedTuple):
+    """What a run holds within a power."""
+
+    first: Value
+    second: Value
+    exponent: int
+
+
+class WithinLogarithm(NamedTuple):
+    """What a run holds within a logarithm."""
+
+    base: int
+    left: int
+    count: int
+
+
+class State(NamedTuple):
+    """What a refused run shows. Only with ALLOWANCE_SPENT is it stopped in a state; otherwise there are steps alone."""
+
+    steps: int  # taken
+    done: int  # items wholly done
+    phase: Union[None, WithinPower, WithinLogarithm]  # None between items
+    hand: Tuple[Value, ...]  # the values on hand, bottom first
+
+
+class Run(NamedTuple):
+    """A recipe's value, and how many steps it took."""
+
+    value: Value
+    steps: int
+
+
+class Range(NamedTuple):
+    """A field's least and greatest number, and how many bits pack a number between them."""
+
+    least: int
+    greatest: int
+    width: int
+
+
+class Field(NamedTuple):
+    """A field as two lists: a mark is 0 where the number fits, 1 where it is overflowed and the number 0."""
+
+    numbers: Sequence[int]
+    marks: Sequence[int]
+
+    def values(self) -> List[Value]:
+        """The values one by one, overflowed ones as OVERFLOWED."""
+        return _values(self.numbers, self.marks)
+
+
+class Block(NamedTuple):
+    """A block that was read: its number, how many values it has, and the two lists that they stand in."""
+
+    number: int
+    count: int
+    numbers: Sequence[int]
+    marks: Sequence[int]
+
+    def values(self) -> List[Value]:
+        """The values one by one, overflowed ones as OVERFLOWED."""
+        return _values(self.numbers[: self.count], self.marks[: self.count])
+
+
+class Found(NamedTuple):
+    """Where a search found an overflowed value: its block's position in the run, and its place in the block."""
+
+    block: int
+    place: int
+
+
+def _value(overflowed: int, number: int) -> Value:
+    return OVERFLOWED if overflowed else int(number)
+
+
+def _values(numbers: Sequence[int], marks: Sequence[int]) -> List[Value]:
+    return [_value(mark, number) for number, mark in zip(numbers, marks)]
+
+
+# ---- The library
+
+
+class _ShapeAnswer(ctypes.Structure):
+    _fields_ = [(name, ctypes.c_uint64) for name in ("place", "limit")]
+
+
+class _PowerAnswer(ctypes.Structure):
+    _fields_ = [
+        (name, ctypes.c_uint64) for name in ("first_overflowed", "first", "second_overflowed", "second", "exponent")
+    ]
+
+
+class _LogarithmAnswer(ctypes.Structure):
+    _fields_ = [(name, ctypes.c_uint64) for name in ("base", "left", "count")]
+
+
+class _RunAnswer(ctypes.Structure):
+    _fields_ = [
+        *((name, ctypes.c_uint64) for name in ("place", "overflowed", "number", "steps", "done", "phase")),
+        ("power", _PowerAnswer),
+        ("logarithm", _LogarithmAnswer),
+        ("on_hand_overflowed", ctypes.c_uint64 * PLACES),
+        ("on_hand", ctypes.c_uint64 * PLACES),
+    ]
+
+
+class _RangeAnswer(ctypes.Structure):
+    _fields_ = [(name, ctypes.c_uint64) for name in ("place", "least", "greatest", "width")]
+
+
+class _BlockAnswer(ctypes.Structure):
+    _fields_ = [(name, ctypes.c_uint64) for name in ("place", "number", "count")]
+
+
+class _FoundAnswer(ctypes.Structure):
+    _fields_ = [(name, ctypes.c_uint64) for name in ("place", "found", "position", "within")]
+
+
+_LIST = (ctypes.c_void_p, ctypes.c_size_t)
+_PAIR = (ctypes.c_uint64, ctypes.c_uint64)
+_SIGNED_PAIR = (ctypes.c_int64, ctypes.c_int64)
+_ENTRIES = {
+    "razovinto_sum": (*_PAIR, *_LIST),
+    "razovinto_product": (*_PAIR, *_LIST),
+    "razovinto_quotient": (*_PAIR, *_LIST),
+    "razovinto_remainder": (*_PAIR, *_LIST),
+    "razovinto_power": (*_PAIR, *_LIST),
+    "razovinto_logarithm": (*_PAIR, *_LIST),
+    "razovinto_power_fits": _PAIR,
+    "razovinto_signed_quotient": (*_SIGNED_PAIR, *_LIST),
+    "razovinto_signed_remainder": (*_SIGNED_PAIR, *_LIST),
+    "razovinto_run": (ctypes.c_uint64, *_LIST, *_LIST, ctypes.c_uint64, *_LIST),
+    "razovinto_shape": (ctypes.c_uint64, *_LIST, *_LIST, *_LIST),
+    "razovinto_scan": (*_LIST, *_LIST, *_LIST),
+    "razovinto_sound": _LIST,
+    "razovinto_read": (*_LIST, *_LIST, *_LIST, *_LIST),
+    "razovinto_search": (*_LIST, *_LIST),
+}
+
+
+def _places() -> List[str]:
+    """Where the library may be, in the order in which it is looked for."""
+    chosen = os.environ.get("RAZOVINTO_LIBRARY")
+    if chosen:
+        return [chosen]
+    here = os.path.dirname(os.path.realpath(__file__))
+    shared = "librazovinto.so." + __version__.split(".")[0]
+    in_tree = os.path.join(here, "..", "target", "host", "librazovinto.so")
+    installed = os.path.join(here, "..", "..", "..", "lib", shared)
+    return [os.path.normpath(in_tree), os.path.normpath(installed), shared]
+
+
+def _load() -> ctypes.CDLL:
+    """The first library that can be loaded and has all entries."""
+    tried = []
+    for place in _places():
+        try:
+            library = ctypes.CDLL(place)
+            for name, parameters in _ENTRIES.items():
+                entry = getattr(library, name)
+                entry.argtypes, entry.restype = parameters, ctypes.c_uint32
+            return library
+        except (OSError, AttributeError) as error:
+            tried.append(f"  {place}: {error}")
+    raise ImportError(
+        "razovinto: no shared library with all entries was found. Looked at:\n"
+        + "\n".join(tried)
+        + "\n'tools/host-library' makes target/host/librazovinto.so in the tree, 'tools/install PREFIX' installs it,"
+        + " and RAZOVINTO_LIBRARY may name its file."
+    )
+
+
+_library = _load()
+
+
+def _answer(answer: ctypes.Structure) -> tuple:
+    """An answer as the two parameters of a lent list."""
+    return ctypes.byref(answer), ctypes.sizeof(answer) // 8
+
+
+# ---- Numbers and lists on their way to the library
+
+
+def _said(number: int) -> str:
+    """A number in an error; Python refuses to write very long ones."""
+    return str(number) if number.bit_length() <= 256 else f"a number of {number.bit_length()} binary digits"
+
+
+def _number(name: str, value: Any, least: int = 0, greatest: int = _MOST) -> int:
+    """A whole number that the parameter can be; ctypes would wrap one that it can't."""
+    if value is OVERFLOWED:
+        raise TypeError(f"{name} is overflowed, and must be a number; a recipe can go on from an overflowed value")
+    try:
+        number = operator.index(value)
+    except TypeError:
+        raise TypeError(f"{name} is {value!r}, and must be a whole number") from None
+    if not least <= number <= greatest:
+        raise OverflowError(f"{name} is {_said(number)}, and must be from {least} to {greatest}")
+    return number
+
+
+class _Items(NamedTuple):
+    """What a list's items are: array's letter, their size, the letters of buffers that have them, the largest."""
+
+    letter: str
+    size: int
+    letters: str
+    greatest: int
+
+
+_BYTES = _Items("B", 1, "Bc?", 255)
+_NUMBERS = _Items("Q", 8, "QL", _MOST)
+
+
+class _Buffer(ctypes.Structure):
+    """CPython's Py_buffer, through which the address of memory that is only to be read can be had as well."""
+
+    _fields_ = [
+        ("address", ctypes.c_void_p),
+        ("owner", ctypes.c_void_p),
+        ("length", ctypes.c_ssize_t),
+        ("item_size", ctypes.c_ssize_t),
+        ("read_only", ctypes.c_int),
+        ("dimensions", ctypes.c_int),
+        ("letter", ctypes.c_char_p),
+        ("shape", ctypes.c_void_p),
+        ("strides", ctypes.c_void_p),
+        ("offsets", ctypes.c_void_p),
+        ("internal", ctypes.c_void_p),
+    ]
+
+
+_get_buffer = ctypes.PYFUNCTYPE(ctypes.c_int, ctypes.py_object, ctypes.POINTER(_Buffer), ctypes.c_int)(
+    ("PyObject_GetBuffer", ctypes.pythonapi)
+)
+_release_buffer = ctypes.PYFUNCTYPE(None, ctypes.POINTER(_Buffer))(("PyBuffer_Release", ctypes.pythonapi))
+
+
+class _Lent:
+    """Memory that is lent for a call. Until it is given back, its owner can neither free nor move it."""
+
+    def __init__(self, name: str, view: memoryview, items: _Items) -> None:
+        self._buffer = _Buffer()
+        _get_buffer(view, ctypes.byref(self._buffer), 0)
+        self.name = name
+        # An empty list's address may be anything, and an entry takes a null pointer for it.
+        self.address = self._buffer.address if view.nbytes else 0
+        self.length = view.nbytes
+        self.count = view.nbytes // items.size
+        self.parameters = self.address, self.count
+
+    def aligned(self, items: _Items) -> bool:
+        return self.address % items.size == 0
+
+    def give_back(self) -> None:
+        _release_buffer(ctypes.byref(self._buffer))
+
+    def __enter__(self) -> _Lent:
+        return self
+
+    def __exit__(self, *_: object) -> None:
+        self.give_back()
+
+
+def _is_masked(given: Any) -> bool:
+    """Whether it is a masked array. Where numpy was never imported, nobody can have one."""
+    numpy = sys.modules.get("numpy")
+    return numpy is not None and isinstance(given, numpy.ma.MaskedArray)
+
+
+def _view(given: Any, items: _Items) -> Optional[memoryview]:
+    """The list's own memory, where it has such items one after the other."""
+    try:
+        view = memoryview(given)
+    except (TypeError, ValueError, BufferError):
+        return None
+    letter = view.format.lstrip("@=<" if sys.byteorder == "little" else "@=>")
+    alike = len(letter) == 1 and letter in items.letters and view.itemsize == items.size
+    return view if alike and view.ndim and view.c_contiguous else None
+
+
+def _listed(name: str, given: Any) -> list:
+    """What can be gone through as a list; a numpy array of several dimensions as its items in order."""
+    numpy = sys.modules.get("numpy")
+    if numpy is not None and isinstance(given, numpy.ndarray) and given.ndim:
+        if given.dtype.kind not in "buiO":
+            raise TypeError(f"{name} is an array of {given.dtype}, and must be one of whole numbers")
+        return given.ravel().tolist()
+    try:
+        return list(given)
+    except (TypeError, NotImplementedError):
+        raise TypeError(f"{name} is of the type {type(given).__name__}, which is no list of whole numbers") from None
+
+
+def _copied(name: str, given: Any, items: _Items) -> array:
+    """The list's numbers, each looked at, in an array of their own."""
+    values = _listed(name, given)
+    try:
+        return array(items.letter, map(operator.index, values))
+    except (TypeError, OverflowError):
+        for place, value in enumerate(values):
+            _number(f"{name}[{place}]", value, 0, items.greatest)
+        raise
+
+
+def _lend(name: str, given: Any, items: _Items) -> _Lent:
+    """Lends a list that is only read: its own memory where that can be, otherwise a copy."""
+    if _is_masked(given):
+        raise TypeError(f"{name} is a masked array, and its mask would be passed over")
+    view = _view(given, items)
+    if view is None:
+        return _Lent(name, memoryview(_copied(name, given, items)), items)
+    lent = _Lent(name, view, items)
+    if lent.aligned(items):
+        return lent
+    lent.give_back()
+    return _Lent(name, memoryview(array(items.letter, view.tobytes())), items)
+
+
+def _lend_to_write(name: str, given: Any, items: _Items) -> _Lent:
+    """Lends a list that is written, which must be its own memory."""
+    view = None if _is_masked(given) else _view(given, items)
+    if view is None or view.readonly or view.ndim != 1:
+        bits = 8 * items.size
+        raise TypeError(f"{name} must be a list that can be written, of unsigned {bits}-bit items one after the other")
+    lent = _Lent(name, view, items)
+    if not lent.aligned(items):
+        lent.give_back()
+        raise ValueError(f"{name} is not aligned to {items.size} bytes")
+    return lent
+
+
+def _see_apart(*lists: _Lent) -> None:
+    """No list that is written may share memory with another."""
+    in_order = sorted((lent for lent in lists if lent.length), key=lambda lent: lent.address)
+    for lower, upper in zip(in_order, in_order[1:]):
+        if lower.address + lower.length > upper.address:
+            raise ValueError(f"{lower.name} and {upper.name} share memory")
+
+
+# ---- Single operations
+
+
+def _operation(entry: Any, left: int, right: int) -> Value:
+    result = (ctypes.c_uint8 * 16)()
+    refusal = entry(left, right, result, 16)
+    if refusal:
+        raise Refused(refusal)
+    return _value(result[8], int.from_bytes(result[:8], "little"))
+
+
+def sum(left: int, right: int) -> Value:
+    """left + right; OVERFLOWED from 2^64 on."""
+    return _operation(_library.razovinto_sum, _number("left", left), _number("right", right))
+
+
+def product(left: int, right: int) -> Value:
+    """left * right; OVERFLOWED from 2^64 on."""
+    return _operation(_library.razovinto_product, _number("left", left), _number("right", right))
+
+
+def quotient(left: int, right: int) -> Value:
+    """The whole part of left / right; refused with 1 where right is 0."""
+    return _operation(_library.razovinto_quotient, _number("left", left), _number("right", right))
+
+
+def remainder(left: int, right: int) -> Value:
+    """What left / right leaves, from 0 to right - 1; refused with 1 where right is 0."""
+    return _operation(_library.razovinto_remainder, _number("left", left), _number("right", right))
+
+
+def power(base: int, exponent: int) -> Value:
+    """base to the power of exponent; OVERFLOWED from 2^64 on. Every base to the power of 0 gives 1, the base 0 too."""
+    return _operation(_library.razovinto_power, _number("base", base), _number("exponent", exponent))
+
+
+def logarithm(base: int, argument: int) -> Value:
+    """The largest e for which base to the power of e is at most argument, and 0 for the argument 0; refused with 2
+    where base is below 2."""
+    return _operation(_library.razovinto_logarithm, _number("base", base), _number("argument", argument))
+
+
+def power_fits(base: int, exponent: int) -> bool:
+    """Whether base to the power of exponent is at most 2^64 - 1; it is not worked out."""
+    return bool(_library.razovinto_power_fits(_number("base", base), _number("exponent", exponent)))
+
+
+def _signed(entry: Any, left: int, right: int) -> int:
+    left = _number("left", left, _LEAST_SIGNED, _MOST_SIGNED)
+    right = _number("right", right, _LEAST_SIGNED, _MOST_SIGNED)
+    result = ctypes.c_int64()
+    refusal = entry(left, right, ctypes.byref(result), 1)
+    if refusal:
+        raise Refused(refusal)
+    return result.value
+
+
+def signed_quotient(left: int, right: int) -> int:
+    """The truncating quotient of two numbers from -2^63 to 2^63 - 1: -7 by 2 gives -3, where Python's // gives -4.
+    Refused with 1 where right is 0, then with 4 for -2^63 by -1, whose quotient doesn't fit."""
+    return _signed(_library.razovinto_signed_quotient, left, right)
+
+
+def signed_remainder(left: int, right: int) -> int:
+    """What the truncating quotient leaves, left - right * quotient, and 0 for -2^63 by -1; refused with 1 where right
+    is 0."""
+    return _signed(_library.razovinto_signed_remainder, left, right)
+
+
+# ---- Recipes
+
+
+def _word(place: int, word: Any) -> Tuple[int, int]:
+    """The kind and the number of a recipe's word."""
+    if isinstance(word, str):
+        if word in KINDS[1:]:
+            return KINDS.index(word), 0
+        if not (word.isascii() and word.isdigit()):
+            raise ValueError(f"recipe[{place}] is {word!r}, and must be a number or one of {', '.join(KINDS[1:])}")
+        if len(word) > 400:
+            raise OverflowError(f"recipe[{place}] is a number of {len(word)} digits, and must be from 0 to {_MOST}")
+        word = int(word)
+    return 0, _number(f"recipe[{place}]", word)
+
+
+def _two_lists(recipe: Any) -> Tuple[Any, Any]:
+    """A recipe as kinds and numbers. Two lists in a tuple are these already; everything else is words."""
+    if isinstance(recipe, (str, bytes, bytearray)):
+        raise TypeError("recipe is one text, and must be a list of words or a tuple of kinds and numbers")
+    if isinstance(recipe, tuple) and len(recipe) == 2 and not any(_is_word(part) for part in recipe):
+        return recipe
+    items = [_word(place, word) for place, word in enumerate(_listed("recipe", recipe))]
+    return bytes(kind for kind, _ in items), array("Q", [number for _, number in items])
+
+
+def _is_word(part: Any) -> bool:
+    """Whether it is a word of a recipe, and no list."""
+    return isinstance(part, (int, str, Overflowed)) or getattr(part, "ndim", 1) == 0
+
+
+def _state(answer: _RunAnswer, kinds: _Lent) -> State:
+    """What a refused run shows. How many values are on hand follows from the items done: a literal brings one, an
+    operation takes one, and a power or a logarithm at work has taken two."""
+    phase: Union[None, WithinPower, WithinLogarithm] = None
+    if answer.phase == 1:
+        held = answer.power
+        first, second = _value(held.first_overflowed, held.first), _value(held.second_overflowed, held.second)
+        phase = WithinPower(first, second, held.exponent)
+    elif answer.phase == 2:
+        phase = WithinLogarithm(answer.logarithm.base, answer.logarithm.left, answer.logarithm.count)
+    literals = ctypes.string_at(kinds.address, answer.done).count(0) if answer.done else 0
+    on_hand = literals - (answer.done - literals) - (2 if phase else 0)
+    hand = _values(answer.on_hand[:on_hand], answer.on_hand_overflowed[:on_hand])
+    return State(answer.steps, answer.done, phase, tuple(hand))
+
+
+Recipe = Union[Iterable[Union[int, str]], Tuple[Sequence[int], Sequence[int]]]
+
+
+def run(width: int, recipe: Recipe, allowance: int) -> Run:
+    """Runs a recipe at a width of 8, 16, 32 or 64 bits, for at most `allowance` steps.
+
+    A recipe is a list of words in postfix order, numbers and the names of operations, as [255, 1, "sum"]; or a tuple of
+    two lists, kinds and numbers, as (b"\\0\\0\\1", [255, 1, 0]), which are lent with no copy where that can be.
+
+    Refused for its shape, in this order: 5 the width, 6 two lists that differ in length, 7 no items or above 256; item
+    by item 8 the kind, then 9 too large and 11 the hand full for a literal, or 10 too few on hand for an operation;
+    12 several values left, 13 none left. Then it runs, and the first item that fails is the answer: 3 an overflowed
+    operand, 1 a divisor 0, 2 a base below 2. 20, the allowance is spent: the exception's `run` is the state in which
+    the run was stopped.
+    """
+    width, allowance = _number("width", width), _number("allowance", allowance)
+    kinds, numbers = _two_lists(recipe)
+    answer = _RunAnswer()
+    with _lend("kinds", kinds, _BYTES) as lent_kinds, _lend("numbers", numbers, _NUMBERS) as lent_numbers:
+        refusal = _library.razovinto_run(
+            width,
+            *lent_kinds.parameters,
+            *lent_numbers.parameters,
+            allowance,
+            *_answer(answer),
+        )
+        if refusal:
+            raise Refused(refusal, answer.place, _state(answer, lent_kinds))
+    return Run(_value(answer.overflowed, answer.number), answer.steps)
+
+
+def shape(width: int, recipe: Recipe) -> int:
+    """The largest number of the width, where a recipe is well formed at it; refused as `run` is for the shape."""
+    width = _number("width", width)
+    kinds, numbers = _two_lists(recipe)
+    answer = _ShapeAnswer()
+    with _lend("kinds", kinds, _BYTES) as lent_kinds, _lend("numbers", numbers, _NUMBERS) as lent_numbers:
+        refusal = _library.razovinto_shape(width, *lent_kinds.parameters, *lent_numbers.parameters, *_answer(answer))
+    if refusal:
+        raise Refused(refusal, answer.place)
+    return answer.limit
+
+
+# ---- Fields
+
+
+def _field(numbers: Any) -> Tuple[Any, Any]:
+    """A field that is given as one thing, as numbers and marks."""
+    if isinstance(numbers, Field):
+        return numbers
+    if _is_masked(numbers):
+        numpy = sys.modules["numpy"]
+        return numbers.filled(0), numpy.ma.getmaskarray(numbers)
+    view = _view(numbers, _NUMBERS)
+    if view is not None:
+        return numbers, bytes(view.nbytes // 8)
+    values = _listed("numbers", numbers)
+    return [0 if value is OVERFLOWED else value for value in values], bytes(value is OVERFLOWED for value in values)
+
+
+def scan(numbers: Any, marks: Any = None) -> Range:
+    """The range of a field that has no overflowed place.
+
+    A field is two lists, numbers and marks: a mark is 0 where the number fits, 1 where it is overflowed and the number
+    0. Without marks it is one thing: a Field, a masked array whose masked places are the overflowed ones (its numbers
+    are copied), or a list in which they are OVERFLOWED.
+
+    Refused with 6, lists that differ in length, then 14, a field without a value; then at the earliest place that has
+    a fault with 15, a mark that isn't 0 or 1, or 1 with a number not 0; or 3, an overflowed place.
+    """
+    if marks is None:
+        numbers, marks = _field(numbers)
+    answer = _RangeAnswer()
+    with _lend("numbers", numbers, _NUMBERS) as lent_numbers, _lend("marks", marks, _BYTES) as lent_marks:
+        refusal = _library.razovinto_scan(*lent_numbers.parameters, *lent_marks.parameters, *_answer(answer))
+    if refusal:
+        raise Refused(refusal, answer.place)
+    return Range(answer.least, answer.greatest, answer.width)
+
+
+# ---- Blocks
+
+
+def sound(block: Any) -> bool:
+    """True where a block is sound; otherwise refused, with 16, it isn't 512 bytes, then 17, its check is wrong, then
+    18, its layout is."""
+    with _lend("block", block, _BYTES) as lent:
+        refusal = _library.razovinto_sound(*lent.parameters)
+    if refusal:
+        raise Refused(refusal)
+    return True
+
+
+def read(block: Any, numbers: Any = None, marks: Any = None) -> Block:
+    """A block's number, its count of values, and these in two lists.
+
+    Lists that are lent as `numbers` and `marks` are written up to the count, stay as they are past it, and stand in the
+    answer. Where none is lent, the answer has an array of numbers, or bytes of marks, of just that count.
+
+    Refused as `sound` is, then with 19 where a lent list has fewer elements than the block has values; both lists stay
+    as they are then.
+    """
+    own_numbers = array("Q", [0]) * BLOCK_VALUES if numbers is None else numbers
+    own_marks = bytearray(BLOCK_VALUES) if marks is None else marks
+    answer = _BlockAnswer()
+    with _lend("block", block, _BYTES) as lent_block, _lend_to_write("numbers", own_numbers, _NUMBERS) as lent_numbers:
+        with _lend_to_write("marks", own_marks, _BYTES) as lent_marks:
+            _see_apart(lent_block, lent_numbers, lent_marks)
+            lists = (*lent_block.parameters, *lent_numbers.parameters, *lent_marks.parameters)
+            refusal = _library.razovinto_read(*lists, *_answer(answer))
+    if refusal:
+        raise Refused(refusal, answer.place)
+    count = answer.count
+    return Block(
+        answer.number,
+        count,
+        own_numbers[:count] if numbers is None else numbers,
+        bytes(own_marks[:count]) if marks is None else marks,
+    )
+
+
+def read_run(run: Any, plain: bool = False) -> Any:
+    """The values of all blocks of a run, one block after the other.
+
+    Where numpy is, they come as a masked array of uint64 whose mask is the overflowed places; its fill value is 0.
+    Where it isn't, or `plain` is true, as a Field of an array of numbers and bytes of marks.
+
+    Refused with 16 at place 0 where the run's length is no multiple of 512, and as `sound` is at the position of the
+    first bad block; no values come then. `read` reads the blocks beside a bad one.
+    """
+    with _lend("run", run, _BYTES) as lent:
+        if lent.count % BLOCK_SIZE:
+            raise Refused(int(Refusal.BLOCK_LENGTH))
+        room = lent.count // BLOCK_SIZE * BLOCK_VALUES
+        numbers, marks = array("Q", [0]) * room, bytearray(room)
+        total = _read_blocks(lent, numbers, marks)
+    del numbers[total:], marks[total:]
+    numpy = None if plain else _numpy()
+    if numpy is None:
+        return Field(numbers, bytes(marks))
+    mask = numpy.frombuffer(marks, numpy.bool_)
+    return numpy.ma.MaskedArray(numpy.frombuffer(numbers, numpy.uint64), mask=mask, fill_value=0)
+
+
+def _read_blocks(run: _Lent, numbers: array, marks: bytearray) -> int:
+    """Reads each block behind the one before it, and gives how many values there are."""
+    answer, total = _BlockAnswer(), 0
+    with _lend_to_write("numbers", numbers, _NUMBERS) as to_numbers, _lend_to_write("marks", marks, _BYTES) as to_marks:
+        for position in range(run.count // BLOCK_SIZE):
+            refusal = _library.razovinto_read(
+                run.address + BLOCK_SIZE * position,
+                BLOCK_SIZE,
+                to_numbers.address + 8 * total,
+                to_numbers.count - total,
+                to_marks.address + total,
+                to_marks.count - total,
+                *_answer(answer),
+            )
+            if refusal:
+                raise Refused(refusal, position)
+            total += answer.count
+    return total
+
+
+def _numpy() -> Any:
+    """numpy, or None where it isn't."""
+    try:
+        import numpy
+    except ImportError:
+        return None
+    return numpy
+
+
+def search(run: Any) -> Optional[Found]:
+    """The first overflowed value of a run of blocks, or None. Each block is looked at whole before its marks count.
+
+    Refused with 16 at place 0 where the run's length is no multiple of 512; or as `sound` is, at the position of the
+    first bad block, where no overflowed value comes before it.
+    """
+    answer = _FoundAnswer()
+    with _lend("run", run, _BYTES) as lent:
+        refusal = _library.razovinto_search(*lent.parameters, *_answer(answer))
+    if refusal:
+        raise Refused(refusal, answer.place)
+    return Found(answer.position, answer.within) if answer.found else None

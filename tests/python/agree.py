@@ -1,0 +1,305 @@
+#!/usr/bin/env python3
+"""Calls the Python module on fresh cases and compares each line with that of the second program, tests/second.
+
+    tests/python/agree.py [--seed N]
+
+The cases are those of tests/second/fresh.py that the module has a function for: runs, scans, reads, searches, single
+operations on fitting numbers of 64 bits, signed ones of 64 bits, and power-fits. Each list is given in some form: a
+list, bytes, an array, memory that is only to be read, memory within a larger array, and with numpy an array of the
+right type, of another type, or with gaps. Ends with 1 at the first case that differs.
+"""
+import argparse
+import sys
+import time
+from array import array
+from pathlib import Path
+
+ROOT = Path(__file__).resolve().parents[2]
+sys.path[:0] = [str(ROOT / "python"), str(ROOT / "tests" / "second")]
+import cases
+import fresh
+import model
+import razovinto
+import rows
+from razovinto import OVERFLOWED, Refused
+
+try:
+    import numpy
+except ImportError:
+    numpy = None
+
+# How many random cases of each row.
+RANDOM = (3000, 1500, 1500, 500, 3000, 2000, 1000, 0)
+GUARD = 3
+
+
+# The forms of a list
+
+
+def within(letter, given):
+    """The same numbers in the middle of a larger array."""
+    around = array(letter, [7] * GUARD)
+    return memoryview(around + array(letter, given) + around)[GUARD : GUARD + len(given)]
+
+
+def with_gaps(letter, given):
+    apart = numpy.full(2 * len(given), 7, letter)
+    apart[::2] = list(given)
+    return apart[::2]
+
+
+def of_type(letter):
+    return lambda given: numpy.array(list(given), letter)
+
+
+def byte_forms():
+    yield from (bytes, bytearray, list, tuple)
+    yield lambda given: array("B", given)
+    yield lambda given: memoryview(bytes(given))
+    yield lambda given: within("B", given)
+    if numpy:
+        yield from (of_type("u1"), of_type("i8"), lambda given: with_gaps("u1", given))
+
+
+def number_forms():
+    yield from (list, tuple)
+    yield lambda given: array("Q", given)
+    yield lambda given: memoryview(array("Q", given)).toreadonly()
+    yield lambda given: within("Q", given)
+    yield lambda given: memoryview(b"\7" + array("Q", given).tobytes())[1:].cast("Q")
+    if numpy:
+        yield from (of_type("u8"), lambda given: with_gaps("u8", given), lambda given: numpy.array(given, object))
+
+
+BYTE_FORMS, NUMBER_FORMS = tuple(byte_forms()), tuple(number_forms())
+
+
+# A case's lines: the model's, and what the module gives
+
+
+def pair(value):
+    return (1, 0) if value is OVERFLOWED else (0, value)
+
+
+def phase_numbers(phase):
+    if isinstance(phase, razovinto.WithinPower):
+        return (1, *pair(phase.first), *pair(phase.second), phase.exponent)
+    return (2, *phase, 0, 0) if phase else (0,) * 6
+
+
+def run_line(given, width, recipe, allowance):
+    try:
+        ran = razovinto.run(width, recipe, allowance)
+        code, place, value, state = 0, 0, ran.value, razovinto.State(ran.steps, 0, None, ())
+    except Refused as refused:
+        code, place, value, state = refused.number, refused.place, 0, refused.run
+    numbers = [code, place, *pair(value), state.steps, state.done, *phase_numbers(state.phase)]
+    for each in (*state.hand, *(0,) * (model.HAND - len(state.hand))):
+        numbers += pair(each)
+    return rows.line(numbers)
+
+
+def words_of(case):
+    """The recipe as words, where words can say it."""
+    if len(case.kinds) == len(case.numbers) and all(k < 7 and not (k and n) for k, n in zip(case.kinds, case.numbers)):
+        return [n if k == 0 else model.KIND_WORDS[k] for k, n in zip(case.kinds, case.numbers)]
+    return None
+
+
+def shape_line(width, recipe):
+    try:
+        return rows.line([0, 0, razovinto.shape(width, recipe)])
+    except Refused as refused:
+        return rows.line([refused.number, refused.place, 0])
+
+
+def run_lines(dice, case):
+    wanted = case.line()
+    recipe = dice.pick(BYTE_FORMS)(case.kinds), dice.pick(NUMBER_FORMS)(case.numbers)
+    yield wanted, run_line(case, case.width, recipe, case.allowance)
+    code, place = model.shape(case.width, case.kinds, case.numbers)
+    yield rows.line([code, place, 0 if code else model.limit(case.width)]), shape_line(case.width, recipe)
+    words = words_of(case)
+    if words is not None:
+        yield wanted, run_line(case, case.width, words, case.allowance)
+        yield wanted, run_line(case, case.width, tuple(map(str, words)), case.allowance)
+
+
+def scan_line(*field):
+    try:
+        return rows.line([0, 0, *razovinto.scan(*field)])
+    except Refused as refused:
+        return rows.line([refused.number, refused.place, 0, 0, 0])
+
+
+def scan_lines(dice, case):
+    wanted = case.line()
+    yield wanted, scan_line(dice.pick(NUMBER_FORMS)(case.numbers), dice.pick(BYTE_FORMS)(case.marks))
+    yield wanted, scan_line(razovinto.Field(case.numbers, case.marks))
+    if len(case.numbers) == len(case.marks) and model.MARK != int(wanted.split()[0]):
+        if all(model.place_fault(number, mark) != model.MARK for number, mark in zip(case.numbers, case.marks)):
+            yield wanted, scan_line([OVERFLOWED if mark else number for number, mark in zip(case.numbers, case.marks)])
+            if numpy:
+                # What stands under a mask doesn't count.
+                under = [9 if mark else number for number, mark in zip(case.numbers, case.marks)]
+                yield wanted, scan_line(numpy.ma.MaskedArray(numpy.array(under, "u8"), mask=list(case.marks)))
+
+
+def read_line(dice, case):
+    """The line of a read into lists that have guards on both sides, which must stay."""
+    numbers = array("Q", [5] * GUARD + [rows.NUMBER_BEFORE] * case.room_numbers + [5] * GUARD)
+    marks = bytearray([5] * GUARD + [rows.MARK_BEFORE] * case.room_marks + [5] * GUARD)
+    if numpy and dice.chance(50):
+        numbers, marks = numpy.array(numbers, "u8"), numpy.array(marks, "u1")
+    room = slice(GUARD, GUARD + case.room_numbers), slice(GUARD, GUARD + case.room_marks)
+    lent = memoryview(numbers)[room[0]], memoryview(marks)[room[1]]
+    try:
+        block = razovinto.read(dice.pick(BYTE_FORMS)(case.block), *lent)
+        head = [0, 0, block.number, block.count]
+    except Refused as refused:
+        head = [refused.number, refused.place, 0, 0]
+    for each in (numbers, marks):
+        assert list(each[:GUARD]) == list(each[-GUARD:]) == [5] * GUARD, "a guard was written"
+    return rows.line([*head, *numbers[room[0]], *marks[room[1]]])
+
+
+def values_line(code, place, number, values):
+    return rows.line([code, place, number, *(each for value in values for each in pair(value))])
+
+
+def own_read_line(dice, case):
+    try:
+        block = razovinto.read(dice.pick(BYTE_FORMS)(case.block))
+        assert len(block.numbers) == len(block.marks) == block.count, "own lists are of the count"
+        return values_line(0, 0, block.number, block.values())
+    except Refused as refused:
+        return values_line(refused.number, refused.place, 0, ())
+
+
+def values_of(block):
+    return [OVERFLOWED if mark else number for number, mark in zip(*model.values_of(block))]
+
+
+def read_lines(dice, case):
+    yield case.line(), read_line(dice, case)
+    fault = model.block_fault(case.block)
+    whole = (0, 0, model.number_of_block(case.block), values_of(case.block)) if not fault else (fault, 0, 0, ())
+    yield values_line(*whole), own_read_line(dice, case)
+    try:
+        yield str(fault), str(0 if razovinto.sound(dice.pick(BYTE_FORMS)(case.block)) is True else "not True")
+    except Refused as refused:
+        yield str(fault), str(refused.number)
+
+
+def search_line(run):
+    try:
+        found = razovinto.search(run)
+        return rows.line([0, 0, *((1, *found) if found else (0, 0, 0))])
+    except Refused as refused:
+        return rows.line([refused.number, refused.place, 0, 0, 0])
+
+
+def whole_run(run):
+    """What reading a run is to give."""
+    if len(run) % model.BLOCK:
+        return values_line(model.BLOCK_SIZE, 0, 0, ())
+    blocks = [run[at : at + model.BLOCK] for at in range(0, len(run), model.BLOCK)]
+    for position, block in enumerate(blocks):
+        if model.block_fault(block):
+            return values_line(model.block_fault(block), position, 0, ())
+    return values_line(0, 0, 0, [value for block in blocks for value in values_of(block)])
+
+
+def read_run_line(run, plain):
+    try:
+        field = razovinto.read_run(run, plain)
+    except Refused as refused:
+        return values_line(refused.number, refused.place, 0, ())
+    if numpy and not plain:
+        assert field.dtype == numpy.uint64 and field.mask.shape == field.shape and field.fill_value == 0
+        assert not field.data[field.mask].any(), "an overflowed value has the number 0"
+        return values_line(0, 0, 0, [OVERFLOWED if m else int(n) for n, m in zip(field.data, field.mask)])
+    return values_line(0, 0, 0, field.values())
+
+
+def search_lines(dice, case):
+    yield case.line(), search_line(dice.pick(BYTE_FORMS)(case.run))
+    wanted = whole_run(case.run)
+    yield wanted, read_run_line(dice.pick(BYTE_FORMS)(case.run), False)
+    yield wanted, read_run_line(dice.pick(BYTE_FORMS)(case.run), True)
+
+
+def operation_lines(_, case):
+    try:
+        value = getattr(razovinto, model.KIND_WORDS[case.kind])(case.left, case.right)
+        yield case.line(), rows.line([0, 0, *pair(value)])
+    except Refused as refused:
+        yield case.line(), rows.line([refused.number, refused.place, 0, 0])
+
+
+def signed_lines(_, case):
+    try:
+        entry = razovinto.signed_remainder if case.remainder else razovinto.signed_quotient
+        number = entry(case.a, case.b)
+        yield case.line(), rows.line([0, 0, int(number < 0), abs(number)])
+    except Refused as refused:
+        yield case.line(), rows.line([refused.number, refused.place, 0, 0])
+
+
+def fit_lines(_, case):
+    fits = razovinto.power_fits(case.base, case.exponent)
+    yield case.line(), str(int(fits)) if isinstance(fits, bool) else repr(fits)
+
+
+LINES = {
+    rows.Run: run_lines,
+    rows.Scan: scan_lines,
+    rows.Read: read_lines,
+    rows.Search: search_lines,
+    rows.Operation: operation_lines,
+    rows.Signed: signed_lines,
+    rows.Fit: fit_lines,
+}
+
+
+def has_function(case):
+    """Whether the module has a function for the case."""
+    if isinstance(case, rows.Operation):
+        return case.width == 64 and case.left is not model.OVERFLOWED and case.right is not model.OVERFLOWED
+    return type(case) in LINES and (not isinstance(case, rows.Signed) or case.width == 64)
+
+
+def some_fitting(dice):
+    return cases.some_operation_of(dice, 64, dice.between(model.SUM, model.LOGARITHM), cases.some_number)
+
+
+def some_signed(dice):
+    return rows.Signed(64, dice.below(2), cases.some_signed_number(dice, 64), cases.some_signed_number(dice, 64))
+
+
+def made(dice):
+    makers = [*cases.SOME[:4], some_fitting, some_signed, *cases.SOME[6:]]
+    random_ones = [maker(dice) for maker, count in zip(makers, RANDOM) for _ in range(count)]
+    return dice.shuffled([*random_ones, *filter(has_function, fresh.boundaries(dice))])
+
+
+def main():
+    parser = argparse.ArgumentParser(description="fresh cases against the Python module")
+    parser.add_argument("--seed", type=int, default=time.time_ns() % 2**32)
+    seed = parser.parse_args().seed
+    print(f"agree: seed {seed}, {'numpy ' + numpy.__version__ if numpy else 'without numpy'}", flush=True)
+    dice = cases.Dice(seed)
+    some = made(dice)
+    lines = 0
+    for case in some:
+        for wanted, given in LINES[type(case)](dice, case):
+            lines += 1
+            if wanted != given:
+                print(f"agree: seed {seed} differs\ncase:     {case.words()}\nexpected: {wanted}\ngiven:    {given}")
+                print(fresh.first_number(wanted.split(), given.split()))
+                sys.exit(1)
+    print(f"agree: {len(some)} cases in {lines} lines agree ({rows.counts(some)})")
+
+
+if __name__ == "__main__":
+    main()

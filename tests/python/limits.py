@@ -1,0 +1,645 @@
+#!/usr/bin/env python3
+"""The Python module at its limits: every function, lists in every form, what is refused and what never gets so far.
+
+    tests/python/limits.py [WORD..]      words go to unittest
+"""
+import copy
+import ctypes
+import doctest
+import mmap
+import importlib.util
+import os
+import pickle
+import subprocess
+import sys
+import tempfile
+import threading
+import unittest
+from array import array
+from pathlib import Path
+
+ROOT = Path(__file__).resolve().parents[2]
+sys.path[:0] = [str(ROOT / "python"), str(ROOT / "tests" / "second")]
+import model
+import razovinto
+import sample
+from razovinto import OVERFLOWED, Block, Field, Found, Range, Refusal, Refused, Run, State
+
+try:
+    import numpy
+except ImportError:
+    numpy = None
+
+MOST = 2**64 - 1
+LOW, HIGH = -(2**63), 2**63 - 1
+MODULE = ROOT / "python" / "razovinto.py"
+with_numpy = unittest.skipUnless(numpy, "numpy isn't here")
+
+
+def block_of(number, *values):
+    return model.make_block(number, [model.OVERFLOWED if value is OVERFLOWED else value for value in values])
+
+
+class Case(unittest.TestCase):
+    def refused(self, number, place, function, *given, **named):
+        """A refusal with its number, place and words; gives the exception."""
+        with self.assertRaises(Refused) as seen:
+            function(*given, **named)
+        error = seen.exception
+        self.assertEqual((error.number, error.place), (number, place))
+        self.assertEqual(error.words, razovinto.refusal_text(number))
+        self.assertIn(error.words, str(error))
+        return error
+
+    def wrong(self, kind, words, function, *given, **named):
+        """An error of Python's own, which names what was wrong."""
+        with self.assertRaises(kind) as seen:
+            function(*given, **named)
+        self.assertIn(words, str(seen.exception))
+
+
+class Operations(Case):
+    def test_sums_and_products(self):
+        self.assertEqual(razovinto.sum(MOST - 1, 1), MOST)
+        self.assertIs(razovinto.sum(MOST, 1), OVERFLOWED)
+        self.assertIs(razovinto.sum(MOST, MOST), OVERFLOWED)
+        self.assertEqual(razovinto.product(2**32, 2**32 - 1), 2**64 - 2**32)
+        self.assertIs(razovinto.product(2**32, 2**32), OVERFLOWED)
+        self.assertEqual(razovinto.product(MOST, 0), 0)
+
+    def test_quotients(self):
+        self.assertEqual((razovinto.quotient(MOST, 10), razovinto.remainder(MOST, 10)), divmod(MOST, 10))
+        self.refused(1, 0, razovinto.quotient, 7, 0)
+        self.refused(1, 0, razovinto.remainder, 0, 0)
+
+    def test_powers(self):
+        self.assertEqual(razovinto.power(2, 63), 2**63)
+        self.assertIs(razovinto.power(2, 64), OVERFLOWED)
+        self.assertEqual(razovinto.power(0, 0), 1)
+        self.assertEqual(razovinto.logarithm(2, MOST), 63)
+        self.assertEqual(razovinto.logarithm(10, 0), 0)
+        self.refused(2, 0, razovinto.logarithm, 1, 5)
+        self.assertIs(razovinto.power_fits(2, 63), True)
+        self.assertIs(razovinto.power_fits(2, 64), False)
+        self.assertIs(razovinto.power_fits(1, MOST), True)
+
+    def test_signed(self):
+        self.assertEqual((razovinto.signed_quotient(-7, 2), razovinto.signed_remainder(-7, 2)), (-3, -1))
+        self.assertEqual(razovinto.signed_quotient(LOW, 1), LOW)
+        self.assertEqual(razovinto.signed_remainder(LOW, -1), 0)
+        self.refused(4, 0, razovinto.signed_quotient, LOW, -1)
+        self.refused(1, 0, razovinto.signed_quotient, LOW, 0)
+        self.refused(1, 0, razovinto.signed_remainder, 5, 0)
+
+    def test_numbers_outside_64_bits(self):
+        parameters = dict.fromkeys(("sum", "product", "quotient", "remainder"), ("left", "right"))
+        parameters.update(power=("base", "exponent"), logarithm=("base", "argument"), power_fits=("base", "exponent"))
+        for name, (first, second) in parameters.items():
+            for number in (-1, MOST + 1, LOW, 10**6000):
+                self.wrong(OverflowError, f"{first} is ", getattr(razovinto, name), number, 1)
+                self.wrong(OverflowError, f"{second} is ", getattr(razovinto, name), 1, number)
+        self.wrong(OverflowError, "right is 18446744073709551616, and must be from 0 to", razovinto.sum, 1, MOST + 1)
+        for function in (razovinto.signed_quotient, razovinto.signed_remainder):
+            self.wrong(OverflowError, "left is", function, LOW - 1, 1)
+            self.wrong(OverflowError, "left is", function, MOST, 1)
+            self.wrong(OverflowError, "right is", function, 1, HIGH + 1)
+
+    def test_no_numbers(self):
+        for given in (1.0, "1", None, b"1", [1], 1j, OVERFLOWED):
+            for name in ("sum", "quotient", "power", "power_fits", "signed_quotient"):
+                self.wrong(TypeError, " is ", getattr(razovinto, name), given, 1)
+                self.wrong(TypeError, " is ", getattr(razovinto, name), 1, given)
+        self.wrong(TypeError, "left is overflowed", razovinto.sum, OVERFLOWED, 1)
+
+    @with_numpy
+    def test_numbers_of_numpy(self):
+        self.assertIs(razovinto.sum(numpy.uint64(MOST), numpy.int8(1)), OVERFLOWED)
+        self.wrong(OverflowError, "left is -1", razovinto.sum, numpy.int64(-1), 1)
+        self.wrong(TypeError, "left is", razovinto.sum, numpy.float64(1), 1)
+        self.assertIs(type(razovinto.sum(numpy.uint64(1), 1)), int)
+
+
+class OverflowedValue(Case):
+    def test_one_value(self):
+        self.assertEqual(repr(OVERFLOWED), "OVERFLOWED")
+        self.assertIs(razovinto.Overflowed(), OVERFLOWED)
+        self.assertIs(copy.copy(OVERFLOWED), OVERFLOWED)
+        self.assertIs(copy.deepcopy([OVERFLOWED])[0], OVERFLOWED)
+        for protocol in range(pickle.HIGHEST_PROTOCOL + 1):
+            self.assertIs(pickle.loads(pickle.dumps(OVERFLOWED, protocol)), OVERFLOWED)
+            self.assertEqual(pickle.loads(pickle.dumps(Run(OVERFLOWED, 3), protocol)), Run(OVERFLOWED, 3))
+
+    def test_equal_to_itself_alone(self):
+        self.assertTrue(OVERFLOWED == OVERFLOWED)
+        for other in (0, 1, MOST, 2**64, None, False, True, float("nan"), float("inf"), "OVERFLOWED"):
+            self.assertFalse(OVERFLOWED == other)
+            self.assertTrue(other != OVERFLOWED)
+        self.assertEqual({OVERFLOWED: 1}[OVERFLOWED], 1)
+
+    def test_no_number_and_no_truth(self):
+        for use in (bool, int, float, complex, abs, len, list, range, hex, round, sum):
+            self.assertRaises(TypeError, use, OVERFLOWED)
+        for use in (
+            lambda: OVERFLOWED + 1,
+            lambda: 1 + OVERFLOWED,
+            lambda: OVERFLOWED * 0,
+            lambda: -OVERFLOWED,
+            lambda: OVERFLOWED < 1,
+            lambda: 1 <= OVERFLOWED,
+            lambda: max(OVERFLOWED, 1),
+            lambda: sorted([OVERFLOWED, 1]),
+            lambda: 1 if OVERFLOWED else 0,
+            lambda: not OVERFLOWED,
+            lambda: [1, 2][OVERFLOWED],
+        ):
+            self.assertRaises(TypeError, use)
+        with self.assertRaises(AttributeError):
+            OVERFLOWED.number = 1
+
+    @with_numpy
+    def test_no_number_of_numpy(self):
+        self.assertRaises(TypeError, lambda: numpy.array([1], "u8") + OVERFLOWED)
+        self.assertRaises(TypeError, lambda: numpy.uint64(1) < OVERFLOWED)
+        self.assertRaises((TypeError, ValueError), lambda: numpy.array([OVERFLOWED], "u8"))
+
+
+class Refusals(Case):
+    def test_exception(self):
+        error = self.refused(20, 3, razovinto.run, 8, [255, 1, "sum", 0, "product"], 3)
+        self.assertEqual(str(error), "allowance spent (refusal 20, place 3)")
+        again = pickle.loads(pickle.dumps(error))
+        self.assertEqual((again.number, again.place, again.run), (error.number, error.place, error.run))
+        self.assertEqual(error.number, Refusal.ALLOWANCE_SPENT)
+        self.assertIs(type(error.number), int)
+        self.assertIsNone(self.refused(1, 0, razovinto.quotient, 1, 0).run)
+
+
+class Recipes(Case):
+    def test_words_and_lists(self):
+        for recipe in (
+            [255, 1, "sum", 0, "product"],
+            (255, 1, "sum", 0, "product"),
+            "255 1 sum 0 product".split(),
+            iter([255, 1, "sum", 0, "product"]),
+            (b"\0\0\1\0\2", [255, 1, 0, 0, 0]),
+            (bytearray(b"\0\0\1\0\2"), array("Q", [255, 1, 0, 0, 0])),
+            ([0, 0, 1, 0, 2], (255, 1, 0, 0, 0)),
+            (memoryview(b"\0\0\1\0\2"), memoryview(array("Q", [255, 1, 0, 0, 0]))),
+        ):
+            self.assertEqual(razovinto.run(8, recipe, 100), Run(0, 5))
+        self.assertEqual(razovinto.run(8, [255, 1, "sum"], 100), Run(OVERFLOWED, 3))
+        self.assertEqual(razovinto.run(64, [MOST], MOST), Run(MOST, 1))
+        # two words in a tuple are words
+        self.refused(12, 2, razovinto.run, 8, (1, 2), 100)
+        self.refused(10, 1, razovinto.run, 8, (1, "sum"), 100)
+
+    def test_all_words(self):
+        answers = {"sum": 14, "product": 33, "quotient": 3, "remainder": 2, "power": 11**3, "logarithm": 0}
+        self.assertEqual(sorted(answers), sorted(razovinto.KINDS[1:]))
+        for word, answer in answers.items():
+            self.assertEqual(razovinto.run(64, [11, 3, word], 100).value, answer)
+
+    def test_wrong_words(self):
+        self.wrong(ValueError, "recipe[1] is 'plus'", razovinto.run, 8, [1, "plus"], 9)
+        self.wrong(ValueError, "recipe[0] is 'literal'", razovinto.run, 8, ["literal"], 9)
+        for word in ("-1", "1.0", "", " 1", "1_0", "\u0661"):
+            self.wrong(ValueError, "recipe[0] is", razovinto.run, 8, [word], 9)
+        self.wrong(OverflowError, "recipe[2] is 18446744073709551616", razovinto.run, 64, [1, 2, MOST + 1], 9)
+        self.wrong(OverflowError, "recipe[0] is -1", razovinto.run, 64, [-1], 9)
+        self.wrong(OverflowError, "recipe[0] is a number of 9000 digits", razovinto.run, 64, ["9" * 9000], 9)
+        self.wrong(TypeError, "recipe[0] is 1.5", razovinto.run, 8, [1.5], 9)
+        self.wrong(TypeError, "recipe[1] is overflowed", razovinto.run, 8, [1, OVERFLOWED], 9)
+        for text in ("255 1 sum", b"\0"):
+            self.wrong(TypeError, "recipe is one text", razovinto.run, 8, text, 9)
+        self.wrong(TypeError, "recipe is of the type int", razovinto.shape, 8, 5)
+        self.wrong(OverflowError, "kinds[1] is 256", razovinto.run, 8, ([0, 256], [1, 2]), 9)
+        self.wrong(OverflowError, "numbers[0] is -1", razovinto.run, 8, ([0], [-1]), 9)
+        self.wrong(TypeError, "numbers[1] is 2.0", razovinto.shape, 8, ([0, 0], [1, 2.0]))
+
+    def test_wrong_width_and_allowance(self):
+        for width in (0, 7, 9, 65, MOST):
+            self.refused(5, 0, razovinto.run, width, [1], 9)
+            self.refused(5, 0, razovinto.shape, width, [1])
+        self.wrong(OverflowError, "width is -8", razovinto.run, -8, [1], 9)
+        self.wrong(OverflowError, "width is 18446744073709551624", razovinto.run, 2**64 + 8, [1], 9)
+        self.wrong(OverflowError, "allowance is -1", razovinto.run, 8, [1], -1)
+        self.wrong(OverflowError, "allowance is 18446744073709551616", razovinto.run, 8, [1], MOST + 1)
+        self.wrong(TypeError, "width is 8.0", razovinto.shape, 8.0, [1])
+
+    def test_shape(self):
+        for width in (8, 16, 32, 64):
+            self.assertEqual(razovinto.shape(width, [1]), 2**width - 1)
+        full = [1] * 32 + ["sum"] * 31
+        self.assertEqual(razovinto.run(8, full, 100), Run(32, 63))
+        for number, place, recipe in (
+            (6, 0, (b"\0\0", [1])),
+            (7, 0, []),
+            (7, 0, (b"", [])),
+            (7, 0, [1] * 257),
+            (8, 0, (b"\7", [0])),
+            (8, 2, (b"\0\0\1", [1, 1, 1])),
+            (9, 1, [1, 256]),
+            (10, 1, [1, "sum"]),
+            (11, 32, [1] * 33),
+            (12, 2, [1, 2]),
+        ):
+            self.refused(number, place, razovinto.shape, 8, recipe)
+            error = self.refused(number, place, razovinto.run, 8, recipe, 9)
+            self.assertEqual(error.run, State(0, 0, None, ()))
+
+    def test_stopped(self):
+        error = self.refused(20, 3, razovinto.run, 8, [255, 1, "sum", 0, "product"], 3)
+        self.assertEqual(error.run, State(3, 3, None, (OVERFLOWED,)))
+        error = self.refused(20, 3, razovinto.run, 8, [9, 2, 7, "power", "sum"], 5)
+        self.assertEqual(error.run, State(5, 3, razovinto.WithinPower(2, 4, 3), (9,)))
+        error = self.refused(20, 2, razovinto.run, 8, [2, 255, "logarithm"], 4)
+        self.assertEqual(error.run, State(4, 2, razovinto.WithinLogarithm(2, 127, 1), ()))
+        error = self.refused(20, 32, razovinto.run, 8, [0] * 32 + ["sum"] * 31, 32)
+        self.assertEqual(error.run, State(32, 32, None, (0,) * 32))
+        error = self.refused(20, 0, razovinto.run, 8, [1], 0)
+        self.assertEqual(error.run, State(0, 0, None, ()))
+
+    def test_failing(self):
+        self.assertEqual(self.refused(1, 2, razovinto.run, 8, [7, 0, "quotient"], 9).run, State(3, 0, None, ()))
+        self.assertEqual(self.refused(3, 4, razovinto.run, 8, [255, 1, "sum", 2, "power"], 9).run.steps, 5)
+        self.assertEqual(self.refused(2, 2, razovinto.run, 8, [1, 5, "logarithm"], 9).run.steps, 3)
+
+    @with_numpy
+    def test_numpy(self):
+        kinds, numbers = numpy.array([0, 0, 1], "u1"), numpy.array([255, 1, 0], "u8")
+        self.assertEqual(razovinto.run(8, (kinds, numbers), 9), Run(OVERFLOWED, 3))
+        self.assertEqual(razovinto.run(8, (kinds.astype("i4"), numbers.astype("i4")), 9), Run(OVERFLOWED, 3))
+        self.assertEqual(razovinto.run(8, numpy.array([5]), 9), Run(5, 1))
+        self.refused(12, 2, razovinto.run, 8, (numpy.int64(1), numpy.int64(2)), 9)
+        self.wrong(TypeError, "numbers is an array of float64", razovinto.run, 8, (kinds, numbers.astype("f8")), 9)
+        self.wrong(OverflowError, "numbers[1] is -1", razovinto.run, 8, (kinds, numpy.array([1, -1, 0])), 9)
+        self.wrong(TypeError, "numbers is a masked array", razovinto.run, 8, (kinds, numpy.ma.array(numbers)), 9)
+
+
+class Fields(Case):
+    def test_ranges(self):
+        self.assertEqual(razovinto.scan([7], [0]), Range(7, 7, 1))
+        self.assertEqual(razovinto.scan([0, MOST], b"\0\0"), Range(0, MOST, 64))
+        self.assertEqual(razovinto.scan(range(3, 9)), Range(3, 8, 3))
+        self.assertEqual(razovinto.scan(array("Q", [5, 6])), Range(5, 6, 1))
+        self.assertEqual(razovinto.scan(Field([5, 9], b"\0\0")), Range(5, 9, 3))
+
+    def test_refusals(self):
+        self.refused(6, 0, razovinto.scan, [1, 2], [0])
+        self.refused(6, 0, razovinto.scan, [], [0])
+        self.refused(14, 0, razovinto.scan, [], [])
+        self.refused(14, 0, razovinto.scan, [])
+        self.refused(14, 0, razovinto.scan, array("Q"), b"")
+        self.refused(15, 1, razovinto.scan, [1, 2, 0], [0, 2, 1])
+        self.refused(15, 1, razovinto.scan, [1, 2, 0], [0, 1, 1])
+        self.refused(3, 2, razovinto.scan, [1, 2, 0], [0, 0, 1])
+        self.refused(3, 1, razovinto.scan, [1, OVERFLOWED, 2])
+
+    def test_wrong_lists(self):
+        self.wrong(OverflowError, "marks[1] is 256", razovinto.scan, [1, 2], [0, 256])
+        self.wrong(OverflowError, "numbers[1] is -2", razovinto.scan, array("q", [1, -2]), [0, 0])
+        self.wrong(OverflowError, "numbers[0] is -5", razovinto.scan, [-5])
+        self.wrong(TypeError, "numbers[0] is 1.0", razovinto.scan, array("d", [1.0]), [0])
+        self.wrong(TypeError, "numbers[0] is overflowed", razovinto.scan, [OVERFLOWED], [1])
+        self.wrong(TypeError, "numbers[0] is None", razovinto.scan, [None])
+        self.wrong(TypeError, "numbers is of the type int", razovinto.scan, 5)
+        self.wrong(TypeError, "marks is of the type int", razovinto.scan, [5], 0)
+        self.wrong(OverflowError, "marks[0] is -1", razovinto.scan, [5], array("b", [-1]))
+
+    def test_memory(self):
+        """What a list is: its own type and layout decides, and not how many bytes there are."""
+        numbers = array("Q", [9, 8, 7, 6])
+        self.assertEqual(razovinto.scan(memoryview(numbers)[::2]), Range(7, 9, 2))
+        self.assertEqual(razovinto.scan(memoryview(numbers)[::-1]), Range(6, 9, 2))
+        self.assertEqual(razovinto.scan(memoryview(numbers)[1:3].toreadonly()), Range(7, 8, 1))
+        self.assertEqual(razovinto.scan((ctypes.c_uint64 * 2)(4, 5)), Range(4, 5, 1))
+        self.assertEqual(razovinto.scan(array("H", [300, 2])), Range(2, 300, 9))
+        self.assertEqual(razovinto.scan(b"\3\4", bytes(2)), Range(3, 4, 1))
+
+    @with_numpy
+    def test_numpy(self):
+        field = numpy.arange(6, dtype="u8").reshape(2, 3) + 10
+        self.assertEqual(razovinto.scan(field), Range(10, 15, 3))
+        self.assertEqual(razovinto.scan(field.T), Range(10, 15, 3))
+        self.assertEqual(razovinto.scan(field, numpy.zeros((2, 3), bool)), Range(10, 15, 3))
+        self.assertEqual(razovinto.scan(field[:, ::2], [0, 0, 0, 0]), Range(10, 15, 3))
+        self.assertEqual(razovinto.scan(field.astype(">u8")), Range(10, 15, 3))
+        self.assertEqual(razovinto.scan(field.astype("i2")), Range(10, 15, 3))
+        for letter in ("f4", "c16", "M8[ns]", "m8[ns]", "S2", "U2"):
+            self.wrong(TypeError, "numbers is an array of", razovinto.scan, field.astype("i8").astype(letter))
+        self.wrong(OverflowError, "numbers[0] is -10", razovinto.scan, -field.astype("i8"))
+        self.wrong(TypeError, "numbers is of the type", razovinto.scan, numpy.array(5, "u8"), [0])
+        marks = numpy.zeros(6, bool)
+        marks[4] = True
+        self.refused(15, 4, razovinto.scan, field, marks)
+        masked = numpy.ma.MaskedArray(field, mask=marks.reshape(2, 3))
+        self.refused(3, 4, razovinto.scan, masked)
+        self.assertEqual(razovinto.scan(masked[:1]), Range(10, 12, 2))
+        self.assertEqual(razovinto.scan(numpy.ma.MaskedArray(field)), Range(10, 15, 3))
+        self.wrong(TypeError, "numbers is a masked array", razovinto.scan, masked, marks)
+
+
+class Blocks(Case):
+    def setUp(self):
+        self.block = block_of(7, 5, OVERFLOWED, MOST)
+
+    def test_read(self):
+        block = razovinto.read(self.block)
+        self.assertEqual(block, Block(7, 3, array("Q", [5, 0, MOST]), b"\0\1\0"))
+        self.assertEqual(block.values(), [5, OVERFLOWED, MOST])
+        self.assertEqual(razovinto.read(block_of(2**32 - 1)), Block(2**32 - 1, 0, array("Q"), b""))
+        self.assertIs(razovinto.sound(self.block), True)
+
+    def test_bad_blocks(self):
+        changed = self.block[:9] + b"\1" + self.block[10:]
+        edition = model.with_check(self.block[:5] + b"\2" + self.block[6:])
+        lengths = ((16, b""), (16, self.block[:511]), (16, self.block + b"\0"))
+        for number, block in (*lengths, (17, changed), (18, edition)):
+            self.refused(number, 0, razovinto.sound, block)
+            self.refused(number, 0, razovinto.read, block)
+            self.refused(number, 0, razovinto.read, block, array("Q"), bytearray())
+
+    def test_lent_lists(self):
+        numbers, marks = array("Q", [11] * 5), bytearray([12] * 4)
+        block = razovinto.read(self.block, numbers, marks)
+        self.assertEqual((list(numbers), list(marks)), ([5, 0, MOST, 11, 11], [0, 1, 0, 12]))
+        self.assertIs(block.numbers, numbers)
+        self.assertIs(block.marks, marks)
+        self.assertEqual(block.values(), [5, OVERFLOWED, MOST])
+        marks = array("B", [9] * 3)
+        self.assertEqual(razovinto.read(self.block, marks=marks).numbers, array("Q", [5, 0, MOST]))
+        self.assertEqual(list(marks), [0, 1, 0])
+        self.assertEqual(razovinto.read(self.block, numbers=array("Q", [1] * 3)).marks, b"\0\1\0")
+
+    def test_short_lists(self):
+        for room_numbers, room_marks in ((2, 3), (3, 2), (0, 55), (55, 0)):
+            numbers, marks = array("Q", [11] * room_numbers), bytearray([12] * room_marks)
+            self.refused(19, 0, razovinto.read, self.block, numbers, marks)
+            self.assertEqual((list(numbers), list(marks)), ([11] * room_numbers, [12] * room_marks))
+
+    def test_neighbours_stay(self):
+        numbers, marks = array("Q", [11] * 9), bytearray([12] * 9)
+        razovinto.read(self.block, memoryview(numbers)[3:6], memoryview(marks)[3:6])
+        self.assertEqual(list(numbers), [11, 11, 11, 5, 0, MOST, 11, 11, 11])
+        self.assertEqual(list(marks), [12, 12, 12, 0, 1, 0, 12, 12, 12])
+
+    def test_lists_that_cannot_be_written(self):
+        marks = bytearray(55)
+        for numbers in (
+            [0] * 55,
+            (0,) * 55,
+            bytes(440),
+            bytearray(440),
+            array("q", [0] * 55),
+            array("d", [0] * 55),
+            memoryview(array("Q", [0] * 55)).toreadonly(),
+            memoryview(array("Q", [0] * 110))[::2],
+            memoryview(array("Q", [0] * 55))[::-1],
+            memoryview(bytearray(440)).cast("Q", (5, 11)),
+            55,
+        ):
+            self.wrong(TypeError, "numbers must be a list that can", razovinto.read, self.block, numbers, marks)
+        for marks in (bytes(55), [0] * 55, memoryview(bytearray(110))[::2], array("b", [0] * 55), array("Q", [0] * 55)):
+            self.wrong(TypeError, "marks must be a list that can be written", razovinto.read, self.block, None, marks)
+        askew = memoryview(bytearray(449))[1:441].cast("Q")
+        if ctypes.addressof(ctypes.c_char.from_buffer(askew)) % 8:
+            self.wrong(ValueError, "numbers is not aligned", razovinto.read, self.block, askew)
+
+    def test_shared_memory(self):
+        memory = bytearray(self.block) + bytearray(512)
+        whole = memoryview(memory)
+        self.wrong(ValueError, "share memory", razovinto.read, whole[:512], whole[504:944].cast("Q"))
+        self.wrong(ValueError, "share memory", razovinto.read, whole[:512], None, whole[511:600])
+        self.wrong(ValueError, "share memory", razovinto.read, self.block, whole[:440].cast("Q"), whole[400:500])
+        self.assertEqual(memory[:512], self.block)
+        block = razovinto.read(whole[:512], whole[512:952].cast("Q"), whole[952:])
+        self.assertEqual(block.values(), [5, OVERFLOWED, MOST])
+
+    def test_search(self):
+        quiet = block_of(0, 1, 2)
+        self.assertIsNone(razovinto.search(b""))
+        self.assertIsNone(razovinto.search(quiet * 3))
+        self.assertEqual(razovinto.search(quiet + self.block), Found(1, 1))
+        self.refused(16, 0, razovinto.search, quiet + self.block[:-1])
+        self.refused(17, 2, razovinto.search, quiet * 2 + bytes(511) + b"\1")
+        self.refused(18, 1, razovinto.search, quiet + bytes(512))
+        self.assertEqual(razovinto.search(self.block + bytes(512)), Found(0, 1))
+
+    def test_read_run(self):
+        run = block_of(0, 1, 2) + block_of(1) + self.block
+        field = razovinto.read_run(run, plain=True)
+        self.assertEqual(field, Field(array("Q", [1, 2, 5, 0, MOST]), b"\0\0\0\1\0"))
+        self.assertEqual(field.values(), [1, 2, 5, OVERFLOWED, MOST])
+        self.assertEqual(razovinto.read_run(b"", plain=True), Field(array("Q"), b""))
+        self.refused(3, 3, razovinto.scan, razovinto.read_run(run))
+        self.refused(16, 0, razovinto.read_run, run[:-1])
+        self.refused(17, 1, razovinto.read_run, run[:512] + bytes(511) + b"\1")
+        self.refused(18, 3, razovinto.read_run, run + bytes(512))
+        if not numpy:
+            self.assertEqual(razovinto.read_run(run), field)
+
+    def test_no_blocks(self):
+        for function in (razovinto.sound, razovinto.read, razovinto.search, razovinto.read_run):
+            self.wrong(TypeError, "is of the type int", function, 512)
+            self.wrong(TypeError, "is 'a'", function, "a" * 512)
+            self.wrong(OverflowError, "[0] is 256", function, [256] * 512)
+
+    @with_numpy
+    def test_masked(self):
+        run = block_of(0, 1, 2) + self.block
+        field = razovinto.read_run(run)
+        self.assertIsInstance(field, numpy.ma.MaskedArray)
+        self.assertEqual((field.dtype, field.mask.dtype), (numpy.uint64, numpy.bool_))
+        self.assertEqual(field.tolist(), [1, 2, 5, None, MOST])
+        self.assertEqual(field.filled().tolist(), [1, 2, 5, 0, MOST])
+        self.assertEqual(razovinto.read_run(block_of(0, 1)).mask.tolist(), [False])
+        self.assertEqual(razovinto.read_run(b"").shape, (0,))
+        field[0] = 9  # its memory is its own
+        self.assertEqual(razovinto.scan(field[:3]), Range(2, 9, 3))
+
+    @with_numpy
+    def test_lent_numpy(self):
+        numbers, marks = numpy.full(9, 11, "u8"), numpy.full(9, 12, "u1")
+        block = razovinto.read(numpy.frombuffer(self.block, "u1"), numbers[3:6], marks[3:6])
+        self.assertEqual(numbers.tolist(), [11, 11, 11, 5, 0, MOST, 11, 11, 11])
+        self.assertEqual(marks.tolist(), [12, 12, 12, 0, 1, 0, 12, 12, 12])
+        self.assertEqual(block.values(), [5, OVERFLOWED, MOST])
+        mask = numpy.ones(4, bool)
+        razovinto.read(self.block, marks=mask)
+        self.assertEqual(mask.tolist(), [False, True, False, True])
+        fixed = numpy.zeros(55, "u8")
+        fixed.flags.writeable = False
+        for wrong in (fixed, numpy.zeros(55, "i8"), numpy.zeros(110, "u8")[::2], numpy.ma.zeros(55, "u8")):
+            self.wrong(TypeError, "numbers must be a list that can be written", razovinto.read, self.block, wrong)
+
+
+class Lending(Case):
+    def address(self, given, items=None):
+        with razovinto._lend("given", given, items or razovinto._NUMBERS) as lent:
+            return lent.address, lent.count
+
+    def test_no_copy(self):
+        """The address that the library gets is that of the caller's own memory, to be read or written."""
+        numbers = array("Q", [1, 2, 3])
+        there = numbers.buffer_info()[0]
+        self.assertEqual(self.address(numbers), (there, 3))
+        self.assertEqual(self.address(memoryview(numbers)[1:]), (there + 8, 2))
+        self.assertEqual(self.address(memoryview(numbers).toreadonly()), (there, 3))
+        text = bytes(range(200))
+        there = ctypes.cast(ctypes.c_char_p(text), ctypes.c_void_p).value
+        view = memoryview(text)
+        for view, offset in ((text, 0), (view, 0), (view[5:], 5), (view.cast("c"), 0)):
+            self.assertEqual(self.address(view, razovinto._BYTES), (there + offset, 200 - offset))
+        memory = bytearray(100)
+        there = ctypes.addressof(ctypes.c_char.from_buffer(memory))
+        self.assertEqual(self.address(memory, razovinto._BYTES), (there, 100))
+
+    def test_askew(self):
+        """Numbers that are not aligned are copied to where they are."""
+        memory = bytearray(8 + 16)
+        there = ctypes.addressof(ctypes.c_char.from_buffer(memory))
+        for offset in range(8):
+            numbers = memoryview(memory)[offset : offset + 16].cast("Q")
+            numbers[0], numbers[1] = 3, 5
+            address, count = self.address(numbers)
+            self.assertEqual((address % 8, count), (0, 2))
+            self.assertEqual(address == there + offset, (there + offset) % 8 == 0)
+            self.assertEqual(razovinto.scan(numbers), Range(3, 5, 2))
+
+    @with_numpy
+    def test_no_copy_of_numpy(self):
+        numbers = numpy.arange(6, dtype="u8").reshape(2, 3)
+        self.assertEqual(self.address(numbers), (numbers.ctypes.data, 6))
+        numbers.flags.writeable = False
+        self.assertEqual(self.address(numbers[1:]), (numbers.ctypes.data + 24, 3))
+        marks = numpy.zeros(6, bool)
+        self.assertEqual(self.address(marks, razovinto._BYTES), (marks.ctypes.data, 6))
+        self.assertNotEqual(self.address(numbers.T)[0], numbers.ctypes.data)
+
+    def test_memory_of_a_file(self):
+        with open(ROOT / "examples" / "mountain.blocks", "rb") as file:
+            with mmap.mmap(file.fileno(), 0, access=mmap.ACCESS_READ) as run:
+                self.assertEqual(razovinto.search(run), Found(16, 3))
+                self.assertEqual(len(razovinto.read_run(run, plain=True).numbers), 38 * 57)
+                with memoryview(run) as view:
+                    self.assertEqual(razovinto.read(view[-512:]).count, 21)
+
+    def test_given_back(self):
+        """After a call, refused or not, the memory is its owner's alone again, and nothing is kept."""
+        memory, marks = bytearray(block_of(1, 2)), bytearray(55)
+        text = bytes(bytearray(512))
+        before = sys.getrefcount(text), sys.getrefcount(memory)
+        for _ in range(50):
+            razovinto.sound(memory)
+            razovinto.read(memory, None, marks)
+            self.assertRaises(Refused, razovinto.read, memory, array("Q"), marks)
+            self.assertRaises(TypeError, razovinto.read, memory, 5, marks)
+            self.assertRaises(TypeError, razovinto.read, memory, None, 5)
+            self.assertRaises(ValueError, razovinto.read, memory, None, memory)
+            self.assertRaises(Refused, razovinto.sound, text)
+            self.assertRaises(Refused, razovinto.search, text)
+            self.assertRaises(Refused, razovinto.run, 8, (memory, []), 9)
+        self.assertEqual((sys.getrefcount(text), sys.getrefcount(memory)), before)
+        memory.append(0)  # would be a BufferError if it were still lent
+        marks.append(0)
+
+    def test_threads(self):
+        run = (ROOT / "examples" / "mountain.blocks").read_bytes()
+        answers = []
+        threads = [
+            threading.Thread(target=lambda: answers.extend(razovinto.search(run) for _ in range(200))) for _ in range(4)
+        ]
+        for thread in threads:
+            thread.start()
+        for thread in threads:
+            thread.join()
+        self.assertEqual(set(answers), {Found(16, 3)})
+        self.assertEqual(len(answers), 800)
+
+
+class Library(Case):
+    def imported(self, program="import razovinto", module=MODULE.parent, **environment):
+        """What a Python of its own says, called from elsewhere."""
+        settings = {**os.environ, "PYTHONPATH": str(module), "PYTHONDONTWRITEBYTECODE": "1"}
+        for name in ("RAZOVINTO_LIBRARY", "LD_LIBRARY_PATH"):
+            settings.pop(name, None)
+        settings.update(environment)
+        with tempfile.TemporaryDirectory() as elsewhere:
+            command = [sys.executable, "-c", program]
+            return subprocess.run(command, env=settings, cwd=elsewhere, capture_output=True, text=True, check=False)
+
+    def test_found(self):
+        program = "import razovinto, sys; print(razovinto._library._name, 'numpy' in sys.modules)"
+        self.assertEqual(self.imported(program).stdout, f"{ROOT / 'target' / 'host' / 'librazovinto.so'} False\n")
+
+    def test_named(self):
+        with tempfile.TemporaryDirectory() as folder:
+            named = Path(folder, "another.so")
+            named.write_bytes((ROOT / "target" / "host" / "librazovinto.so").read_bytes())
+            ended = self.imported("import razovinto; print(razovinto._library._name)", RAZOVINTO_LIBRARY=str(named))
+            self.assertEqual(ended.stdout, f"{named}\n")
+
+    def test_not_found(self):
+        """The error says where it was looked for, and how it is made."""
+        ended = self.imported(RAZOVINTO_LIBRARY="/nowhere/librazovinto.so")
+        self.assertNotEqual(ended.returncode, 0)
+        self.assertIn("/nowhere/librazovinto.so: ", ended.stderr)
+        self.assertIn("'tools/host-library' makes", ended.stderr)
+        self.assertNotIn(str(ROOT / "target"), ended.stderr)
+        with tempfile.TemporaryDirectory() as folder:
+            alone = Path(folder, "a", "b", "c")
+            alone.mkdir(parents=True)
+            (alone / "razovinto.py").write_bytes(MODULE.read_bytes())
+            ended = self.imported(module=alone)
+            self.assertIn(f"{folder}/a/b/target/host/librazovinto.so: ", ended.stderr)
+            major = razovinto.__version__.split(".")[0]
+            self.assertIn(f"{folder}/lib/librazovinto.so.{major}: ", ended.stderr)
+
+    def test_other_library(self):
+        ended = self.imported(RAZOVINTO_LIBRARY="libc.so.6")
+        self.assertIn("libc.so.6: ", ended.stderr)
+        self.assertIn("razovinto_sum", ended.stderr)
+
+    def test_documented(self):
+        """Every public function has its docstring, every name of __all__ is there, and the examples hold."""
+        for name in razovinto.__all__:
+            self.assertTrue(hasattr(razovinto, name), name)
+            thing = getattr(razovinto, name)
+            if callable(thing):
+                self.assertTrue(thing.__doc__, name)
+        failed, tried = doctest.testmod(razovinto)
+        self.assertEqual(failed, 0)
+        self.assertGreater(tried, 0)
+
+
+class Examples(Case):
+    def drawn(self, *words):
+        command = [sys.executable, str(ROOT / "examples" / "plateau.py"), *words]
+        return subprocess.run(command, capture_output=True, text=True, check=False)
+
+    def test_plateau(self):
+        """The picture is of the size that a page shows, and its hatched places are those of the sample."""
+        if not importlib.util.find_spec("matplotlib"):
+            ended = self.drawn()
+            self.assertEqual((ended.returncode, ended.stdout), (1, ""))
+            self.assertEqual(ended.stderr, "plateau: matplotlib isn't here, so no picture is drawn\n")
+            return
+        field = [sample.temperature(row, column) for row in range(sample.ROWS) for column in range(sample.COLUMNS)]
+        with tempfile.TemporaryDirectory() as folder:
+            picture = Path(folder, "plateau.png")
+            ended = self.drawn(str(picture))
+            told = f"{field.count(model.OVERFLOWED)} of {len(field)} places are overflowed"
+            self.assertEqual((ended.stdout, ended.stderr), (f"plateau: {picture}, {told}\n", ""))
+            for each in (picture, ROOT / "docs" / "plateau.png"):
+                image = each.read_bytes()
+                self.assertEqual(image[:8], b"\x89PNG\r\n\x1a\n")
+                self.assertIn(int.from_bytes(image[16:20], "big"), range(900, 1201))
+                self.assertLess(len(image), 80000)
+
+    def test_plateau_misused(self):
+        ended = self.drawn("a.png", "b.png")
+        self.assertEqual((ended.returncode, ended.stderr), (1, "usage: examples/plateau.py [FILE]\n"))
+
+
+if __name__ == "__main__":
+    unittest.main()
