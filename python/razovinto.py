@@ -276,7 +276,7 @@ class _RunAnswer(ctypes.Structure):
         *((name, ctypes.c_uint64) for name in ("place", "overflowed", "number", "steps", "done", "phase")),
         ("power", _PowerAnswer),
         ("logarithm", _LogarithmAnswer),
-        ("on_hand_overflowed", ctypes.c_uint64 * PLACES),
+        ("on_hand_overflowed", ctypes.c_uint8 * PLACES),
         ("on_hand", ctypes.c_uint64 * PLACES),
     ]
 
