@@ -1,19 +1,21 @@
 -- A run's answer in a lent list: how many numbers it has, and that its parts, stored one after the other, are the whole.
 -- Assumes nothing.
-use mathlib.Core.Path.{_≡_, refl, ap, _∙_}
-use mathlib.Core.List.{List, [], _∷_}
-use Prim.Native.Nat.{ℕ}
+use mathlib.Core.Path.{_≡_, refl, ap, ap₂, sym, _∙_}
+use mathlib.Core.List.{List, [], _∷_, _++_}
+use Prim.Native.Nat.{ℕ, _+_, _≤_}
 use native.Mathlib.Omega.{arith}
-use lib.ListN.{length, getD}
-use lib.Seq.{sets}
+use lib.ListN.{length, getD, take, drop, length-drop, take-append-drop}
+use lib.Seq.{sets, take-all, drop-drop, length-take-le}
 use Rattle.checked.specs.declared.types.Checked64.the-variants.{Fits, Overflowed}
 use Rattle.checked.specs.Value.{Value}
 use Rattle.checked.specs.Paper.{given}
+use Rattle.little.specs.Bytes.{Bytes, part, little, bytesOf}
+use Rattle.little.proofs.Little.{bytes-little, part-bytes}
 use Rattle.places.specs.Places.{table}
 use Rattle.recipe.specs.Run.{Shown, runOf}
-use Rattle.recipe.proofs.Promises.{places-shown}
+use Rattle.recipe.proofs.Promises.{places-shown, marks-shown}
 use Rattle.hosts.specs.Answers.{phaseWords, markWords, ofRun}
-use Rattle.hosts.proofs.Stores.{listed}
+use Rattle.places.proofs.Stores.{listed}
 
 -- a value is no refusal
 pub value-code : (v : Value) → 0 ≡ given v .code
@@ -42,3 +44,39 @@ run-stored s old answered phased marked all n a p m l =
     ∙ ap (sets marked 18) (listed (s .numbers) 32 n)
     ∙ ap (λ x. sets x 18 (s .numbers)) (m ∙ ap (λ x. sets x 14 (markWords (s .marks))) p)
     ∙ ap (λ x. sets (sets (sets x 5 (phaseWords (s .phase))) 14 (markWords (s .marks))) 18 (s .numbers)) a
+
+-- ---- the marks
+
+-- the parts of a list of 32
+four-parts : (xs : List ℕ) → length xs ≡ 32 → part 0 8 xs ++ (part 8 8 xs ++ (part 16 8 xs ++ part 24 8 xs)) ≡ xs
+four-parts xs e =
+    let rest : take 8 (drop 24 xs) ≡ drop 24 xs = take-all 8 (drop 24 xs) (omega (arith, length-drop 24 xs)) in
+    ap (λ l. part 0 8 xs ++ (part 8 8 xs ++ (part 16 8 xs ++ l))) rest
+    ∙ ap (λ l. part 0 8 xs ++ (part 8 8 xs ++ l)) (seam 16)
+    ∙ ap (λ l. part 0 8 xs ++ l) (seam 8)
+    ∙ seam 0
+  where
+    seam : (k : ℕ) → take 8 (drop k xs) ++ drop (k + 8) xs ≡ drop k xs
+    seam k = ap (λ l. take 8 (drop k xs) ++ l) (sym (drop-drop 8 k xs)) ∙ take-append-drop 8 (drop k xs)
+
+pub bytes-of-marks
+    : (W : ℕ) (ks ns : List ℕ) (k : ℕ) →
+    let words = ofRun (runOf W ks ns k) .words in
+    bytesOf 8 (getD words 14 0)
+    ++ (bytesOf 8 (getD words 15 0) ++ (bytesOf 8 (getD words 16 0) ++ bytesOf 8 (getD words 17 0)))
+    ≡ runOf W ks ns k .marks
+bytes-of-marks W ks ns k =
+    ap₂ _++_ (there 0 (omega arith)) (ap₂ _++_ (there 8 (omega arith)) (ap₂ _++_ (there 16 (omega arith)) (there 24 (omega arith))))
+    ∙ four-parts marks (places-shown W ks ns k .0)
+  where
+    marks : List ℕ
+    marks = runOf W ks ns k .marks
+
+    bytes : Bytes marks
+    bytes i = let h = marks-shown W ks ns k i in omega arith
+
+    there : (at : ℕ) → at + 8 ≤ 32 → bytesOf 8 (little (part at 8 marks)) ≡ part at 8 marks
+    there at h =
+        let room : 8 ≤ length (drop at marks) = omega (arith, length-drop at marks, places-shown W ks ns k .0) in
+        ap (λ n. bytesOf n (little (part at 8 marks))) (sym (length-take-le 8 (drop at marks) room))
+        ∙ bytes-little (part at 8 marks) (part-bytes at 8 marks bytes)

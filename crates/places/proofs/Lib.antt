@@ -5,4 +5,5 @@ pub mod Every
 pub mod Totals
 pub mod Tables
 pub mod Copies
+pub mod Stores
 pub mod Faults

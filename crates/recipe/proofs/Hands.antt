@@ -44,6 +44,19 @@ unused-zero f hand i h =
     laid-get f hand (replicate (32 - length hand) 0) i (i - length hand) e
     ∙ zeros-at (32 - length hand) (i - length hand)
 
+mark-small : (v : Value) → markOf v ≤ 1
+mark-small (Fits n) = omega arith
+mark-small Overflowed = omega arith
+
+-- a mark at any place is 0 or 1
+pub mark-shown : (hand : List Value) (i : ℕ) → getD (places markOf hand) i 0 ≤ 1
+mark-shown hand i =
+    elim (decLt i (length hand)) [
+      | yes h ↦
+          omega (arith, laid-below markOf hand (replicate (32 - length hand) 0) i h, mark-small (fromBottom hand i))
+      | no n ↦ omega (arith, unused-zero markOf hand i (omega arith))
+    ]
+
 pub shows-hand : (hand : List Value) → length hand ≤ 32 → ShowsHand hand (places markOf hand) (places numberIn hand)
 shows-hand hand h =
     record {

@@ -27,7 +27,7 @@ use Rattle.steps.proofs.Stops as stops
 use Rattle.steps.proofs.Widths.{hand-at-most}
 use Rattle.recipe.specs.Run.{ended, refusedAt, answered, answerMeant, countOf, stateAfter, runOf}
 use Rattle.recipe.specs.Run.{ShowsPower, ShowsLogarithm, ShowsHand, WellFormed, StopsAt}
-use Rattle.recipe.proofs.Hands.{shows-hand, shows-power, shows-logarithm}
+use Rattle.recipe.proofs.Hands.{shows-hand, mark-shown, shows-power, shows-logarithm}
 use Rattle.recipe.proofs.Shaped.{run-refused}
 use Rattle.recipe.proofs.Courses as courses
 pub use Rattle.recipe.proofs.Unique.{run-unique}
@@ -270,6 +270,14 @@ module _ (W : ℕ) (ks ns : List ℕ) (k : ℕ) where
         | courses.going-on d hand p rest g s r ↦
             let h = shows-hand hand (hand-at-most (limitOf W) (items ks ns) g k d hand p rest s) in
             (ap (λ r. length (r .marks)) r ∙ h .places-of-marks, ap (λ r. length (r .numbers)) r ∙ h .places-of-numbers)
+      ]
+
+  -- and each mark is 0 or 1
+  pub marks-shown : (i : ℕ) → getD (runOf W ks ns k .marks) i 0 ≤ 1
+  marks-shown i =
+      elim (courses.view W ks ns k) [
+        | courses.over a t r ↦ omega (arith, ap (λ r. getD (r .marks) i 0) r, mark-shown [] i)
+        | courses.going-on d hand p rest g s r ↦ omega (arith, ap (λ r. getD (r .marks) i 0) r, mark-shown hand i)
       ]
 
   -- within a power both values are values of the width and are shown so, and the exponent is at most M

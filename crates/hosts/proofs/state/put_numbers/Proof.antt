@@ -7,7 +7,7 @@ use native.Mathlib.Omega.{arith}
 use lib.ListN.{length, getD, length-set}
 use lib.Seq.{sets}
 use Rattle.places.specs.Places.{table}
-use Rattle.hosts.proofs.Stores.{stored-none, stored-turn, stored-all}
+use Rattle.places.proofs.Stores.{stored-none, stored-turn, stored-all}
 use Rattle.hosts.proofs.state.put_numbers.Statement.{statement}
 use Rattle.hosts.proofs.state.put_numbers.Tie as tie
 
