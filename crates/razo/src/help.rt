@@ -1,12 +1,15 @@
 // How the tool is used.
-pub(crate) fn help(fd: i32) {
-    io::write_all(
+use crate::status::WELL;
+use crate::status::WRONG;
+
+pub(crate) fn help(fd: i32) -> u8 {
+    let written = io::write_all(
         fd,
         b"\
-razo search FILE
+razo search FILE..
     the first overflowed value of a file of blocks, by block position and place;
     or that there is none; or the first bad block reached, and why it is bad
-razo read FILE
+razo read FILE..
     a line for each block: position, number, count, how many values overflowed,
     least, greatest and packing width ('-' in a block that is empty or has an
     overflowed value); or why the block is bad
@@ -15,13 +18,29 @@ razo run WIDTH ALLOWANCE WORD..
     the state in which its allowance was spent
 razo --help
     this text
+razo --version
+    the version
 
-A FILE is read in blocks of 512 bytes; '-' is standard input. A WORD is a number
+A FILE is read in blocks of 512 bytes; '-' is standard input. Where there are
+several, each line begins with the file's name and a colon. A WORD is a number
 below 2^64, or an operation on the two values before it: sum, product, quotient,
 remainder, power, logarithm. Blocks, places and words are counted from 0.
 
+The exit status is
+    0  where all is well
+    1  where an overflowed value was found, a block is bad, or a recipe's answer
+       is no number that fits
+    2  where something was wrong with the call or a file, even where another
+       file gives 1; standard error says what it was
+
     razo search blocks.dat
+    razo read monday.blocks tuesday.blocks
     razo run 8 100 255 1 sum 0 product
 ",
     );
+    if written {
+        return WELL;
+    }
+    os::fail(b"razo: standard output");
+    WRONG
 }

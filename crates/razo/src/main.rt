@@ -7,6 +7,7 @@ mod reason;
 mod run_command;
 mod search_command;
 mod show;
+mod status;
 mod text;
 mod words;
 
@@ -16,11 +17,18 @@ use crate::lists::number_of;
 use crate::read_command::read_parts;
 use crate::run_command::run_command;
 use crate::search_command::search_parts;
+use crate::status::UNWRITTEN;
+use crate::status::WELL;
+use crate::status::WRONG;
+use crate::status::say_status;
+use crate::status::worse;
 use crate::text::complain;
 use crate::text::complain_too_long;
 use crate::text::fail;
 use crate::text::first;
+use crate::text::same;
 use libc::STDERR_FILENO;
+use libc::STDIN_FILENO;
 use libc::STDOUT_FILENO;
 
 // What is done with a file of blocks.
@@ -29,43 +37,68 @@ enum Command {
     Read,
 }
 
-fn go_through(command: Command, name: &[u8]) {
+fn go_on(command: Command, fd: i32, name: &[u8], named: bool) -> u8 {
+    match command {
+        Command::Search => search_parts(fd, name, named),
+        Command::Read => read_parts(fd, name, named),
+    }
+}
+
+// Standard input stays open: it may be named twice, and ends at once the second time.
+fn go_through(command: Command, name: &[u8], named: bool) -> u8 {
     let fd = open(name);
     if fd < 0 {
-        fail(name);
-        return;
+        return fail(name);
     }
-    match command {
-        Command::Search => search_parts(fd, name),
-        Command::Read => read_parts(fd, name),
+    let status = go_on(command, fd, name, named);
+    if fd != STDIN_FILENO {
+        libc::close(fd);
     }
-    libc::close(fd);
+    status
 }
 
-// A command whose one word is a file.
-fn on_file(command: Command, said: &[u8]) {
-    if os::arg_count() != 3 {
-        complain(
+// The file that a word of the command line names.
+fn on_file(command: Command, index: usize, named: bool) -> u8 {
+    let mut space = io::buffer();
+    let name: &mut [u8] = &mut space;
+    let length = os::arg(index, name);
+    if os::errno() != 0 {
+        return complain_too_long(b"razo: '", name);
+    }
+    go_through(command, first(name, length), named)
+}
+
+// The files that the words from the third on name. One that can't be read doesn't keep the others from their turn.
+fn on_each(command: Command, words: usize) -> u8 {
+    let named = 3 < words;
+    let mut worst = WELL;
+    let mut index = 2;
+    while index < words {
+        worst = worse(worst, on_file(command, index, named));
+        if worst == UNWRITTEN {
+            return worst;
+        }
+        index = index + 1;
+    }
+    worst
+}
+
+fn on_files(command: Command, said: &[u8], words: usize) -> u8 {
+    if words < 3 {
+        return complain(
             b"razo: '",
             said,
-            b"' takes one FILE: a name, or '-' for standard input\n",
+            b"' takes FILE..: names, or '-' for standard input\n",
         );
-        return;
     }
-    let mut name = io::buffer();
-    let length = os::arg(2, &mut name);
-    if os::errno() != 0 {
-        fail(b"FILE");
-        return;
-    }
-    go_through(command, &name[..length]);
+    on_each(command, words)
 }
 
-fn obey(said: &[u8]) {
+fn obey(said: &[u8], words: usize) -> u8 {
     match number_of(said, 6, b"search\nread\nrun\n--help\n-h\nhelp\n") {
-        1 => on_file(Command::Search, said),
-        2 => on_file(Command::Read, said),
-        3 => run_command(),
+        1 => on_files(Command::Search, said, words),
+        2 => on_files(Command::Read, said, words),
+        3 => run_command(words),
         4..=6 => help(STDOUT_FILENO),
         _ => complain(
             b"razo: '",
@@ -75,17 +108,36 @@ fn obey(said: &[u8]) {
     }
 }
 
-fn main() {
-    if os::arg_count() < 2 {
+// Does what so many words of the command line ask, the program's name among them, and gives the status.
+fn obey_words(words: usize) -> u8 {
+    if words < 2 {
         help(STDERR_FILENO);
-        return;
+        return WRONG;
     }
     let mut space = io::buffer();
     let said: &mut [u8] = &mut space;
     let length = os::arg(1, said);
     if os::errno() != 0 {
-        complain_too_long(b"razo: '", said);
-        return;
+        return complain_too_long(b"razo: '", said);
     }
-    obey(first(said, length));
+    obey(first(said, length), words)
+}
+
+// Whether the word is the one by which the script asks for the status. It comes last, so that no other word moves.
+fn asks_status(index: usize) -> bool {
+    let mut space = [0u8; 32];
+    let said: &mut [u8] = &mut space;
+    let length = os::arg(index, said);
+    same(first(said, length), b"--status-on-3")
+}
+
+fn main() {
+    let words = os::arg_count();
+    if 1 < words {
+        if asks_status(words - 1) {
+            say_status(obey_words(words - 1));
+            return;
+        }
+    }
+    obey_words(words);
 }

@@ -4,11 +4,15 @@ use crate::file::count_on;
 use crate::file::fill;
 use crate::file::in_whole_blocks;
 use crate::reason::reason;
+use crate::status::FOUND;
+use crate::status::UNWRITTEN;
+use crate::status::WELL;
+use crate::status::told;
 use crate::text::count_set;
 use crate::text::fail;
 use crate::text::first;
 use crate::text::say;
-use crate::text::write_out;
+use crate::text::write_lines;
 use block::read::read;
 use block::types::Read;
 use checked::refusal::Refusal;
@@ -29,10 +33,10 @@ struct Listed {
     tally: Tally,
 }
 
-// Whether reading goes on, and then with which tally.
+// Whether reading goes on, and then with which tally; or how it ended.
 enum Listing {
     On(Tally),
-    Over,
+    Over(u8),
 }
 
 // A text with blanks before it, up to a width of at most 22.
@@ -159,48 +163,63 @@ fn list_blocks(lines: &mut [u8], tally: Tally, bytes: &[u8]) -> Listed {
     listed
 }
 
-fn say_columns() -> bool {
+fn say_columns(name: &[u8], named: bool) -> bool {
     let columns =
         b"  position      number  count  overflowed                 least              greatest  width\n";
-    write_out(columns, columns.len())
+    write_lines(name, named, columns, columns.len())
 }
 
-fn say_tally(tally: Tally) {
+fn say_tally(name: &[u8], named: bool, tally: Tally) -> bool {
     let blocks = tally.blocks;
     if blocks == 1 {
-        say(
+        return say(
+            name,
+            named,
             b"# block, # bad, # with overflowed values\n",
             &[blocks, tally.bad, tally.overflowed],
         );
-    } else {
-        say(
-            b"# blocks, # bad, # with overflowed values\n",
-            &[blocks, tally.bad, tally.overflowed],
-        );
     }
+    say(
+        name,
+        named,
+        b"# blocks, # bad, # with overflowed values\n",
+        &[blocks, tally.bad, tally.overflowed],
+    )
 }
 
-// The lines of a part are written at once.
-fn list_run(run: &[u8], tally: Tally, lines: &mut [u8]) -> Listing {
+fn status_of(tally: Tally) -> u8 {
+    if 0 < tally.bad {
+        return FOUND;
+    }
+    if 0 < tally.overflowed {
+        return FOUND;
+    }
+    WELL
+}
+
+// The lines of a part are written when all of them are made.
+fn list_run(name: &[u8], named: bool, run: &[u8], tally: Tally, lines: &mut [u8]) -> Listing {
     let listed = list_blocks(lines, tally, run);
     let now_tally = listed.tally;
-    if write_out(lines, listed.at) {
+    if write_lines(name, named, lines, listed.at) {
         return Listing::On(now_tally);
     }
-    Listing::Over
+    Listing::Over(UNWRITTEN)
 }
 
-fn list_last(bytes: &[u8], tally: Tally, lines: &mut [u8]) {
-    if let Listing::On(all) = list_run(bytes, tally, lines) {
-        say_tally(all);
+fn list_last(name: &[u8], named: bool, bytes: &[u8], tally: Tally, lines: &mut [u8]) -> u8 {
+    match list_run(name, named, bytes, tally, lines) {
+        Listing::On(all) => told(say_tally(name, named, all), status_of(all)),
+        Listing::Over(status) => status,
     }
 }
 
 // What came before a read failed. A block that the failure cut is not looked at.
-fn list_cut(name: &[u8], bytes: &[u8], tally: Tally, lines: &mut [u8]) {
+fn list_cut(name: &[u8], named: bool, bytes: &[u8], tally: Tally, lines: &mut [u8]) -> u8 {
     let whole = in_whole_blocks(bytes.len());
-    if let Listing::On(_) = list_run(first(bytes, whole), tally, lines) {
-        fail(name);
+    match list_run(name, named, first(bytes, whole), tally, lines) {
+        Listing::On(_) => fail(name),
+        Listing::Over(status) => status,
     }
 }
 
@@ -208,25 +227,36 @@ fn list_cut(name: &[u8], bytes: &[u8], tally: Tally, lines: &mut [u8]) {
 fn list_filled(
     filled: Filled,
     name: &[u8],
+    named: bool,
     part: &[u8],
     tally: Tally,
     lines: &mut [u8],
 ) -> Listing {
     match filled {
-        Filled::Full => return list_run(part, tally, lines),
-        Filled::Ended(count) => list_last(first(part, count), tally, lines),
-        Filled::Failed(count) => list_cut(name, first(part, count), tally, lines),
+        Filled::Full => list_run(name, named, part, tally, lines),
+        Filled::Ended(count) => {
+            Listing::Over(list_last(name, named, first(part, count), tally, lines))
+        }
+        Filled::Failed(count) => {
+            Listing::Over(list_cut(name, named, first(part, count), tally, lines))
+        }
     }
-    Listing::Over
 }
 
-fn list_part(fd: i32, name: &[u8], part: &mut [u8], tally: Tally, lines: &mut [u8]) -> Listing {
+fn list_part(
+    fd: i32,
+    name: &[u8],
+    named: bool,
+    part: &mut [u8],
+    tally: Tally,
+    lines: &mut [u8],
+) -> Listing {
     let filled = fill(fd, part);
-    list_filled(filled, name, part, tally, lines)
+    list_filled(filled, name, named, part, tally, lines)
 }
 
 // Nothing says that a file ends, so the parts are counted down from a number that no file uses up.
-fn list_parts(fd: i32, name: &[u8]) {
+fn list_parts(fd: i32, name: &[u8], named: bool) -> u8 {
     let mut part_space = io::large_buffer();
     let part: &mut [u8] = &mut part_space;
     let mut lines_space = io::large_buffer();
@@ -238,16 +268,18 @@ fn list_parts(fd: i32, name: &[u8]) {
     };
     let mut turns: u64 = 18446744073709551615;
     while 0 < turns {
-        match list_part(fd, name, part, tally, lines) {
+        match list_part(fd, name, named, part, tally, lines) {
             Listing::On(now_tally) => tally = now_tally,
-            Listing::Over => return,
+            Listing::Over(status) => return status,
         }
         turns = turns - 1;
     }
+    WELL
 }
 
-pub(crate) fn read_parts(fd: i32, name: &[u8]) {
-    if say_columns() {
-        list_parts(fd, name);
+pub(crate) fn read_parts(fd: i32, name: &[u8], named: bool) -> u8 {
+    if say_columns(name, named) {
+        return list_parts(fd, name, named);
     }
+    UNWRITTEN
 }

@@ -1,5 +1,6 @@
 // A recipe as words of the command line.
 use crate::show::show;
+use crate::status::WRONG;
 use crate::text::complain;
 use crate::text::complain_too_long;
 use crate::text::first;
@@ -20,16 +21,20 @@ enum Item {
     Nothing,
 }
 
-fn complain_too_large(before: &[u8], said: &[u8]) {
-    complain(before, said, b"', is too large: numbers are below 2^64\n");
+fn complain_too_large(before: &[u8], said: &[u8]) -> u8 {
+    complain(before, said, b"', is too large: numbers are below 2^64\n")
 }
 
 // A number, or a line that says why it is none.
 fn number_in(before: &[u8], said: &[u8]) -> Given {
     match word_of(said) {
         Word::Number(n) => return Given::Number(n),
-        Word::TooLarge => complain_too_large(before, said),
-        _ => complain(before, said, b"', is not a number\n"),
+        Word::TooLarge => {
+            complain_too_large(before, said);
+        }
+        _ => {
+            complain(before, said, b"', is not a number\n");
+        }
     }
     Given::Nothing
 }
@@ -54,8 +59,12 @@ fn item_in(before: &[u8], said: &[u8]) -> Item {
             kind: kind,
             number: 0,
         },
-        Word::TooLarge => complain_too_large(before, said),
-        Word::Neither => complain(before, said, b"', is neither a number nor an operation\n"),
+        Word::TooLarge => {
+            complain_too_large(before, said);
+        }
+        Word::Neither => {
+            complain(before, said, b"', is neither a number nor an operation\n");
+        }
     }
     Item::Nothing
 }
@@ -109,22 +118,22 @@ fn take_items(count: usize, kinds: &mut [u8], numbers: &mut [u64]) -> bool {
     true
 }
 
-fn run_items(width: u64, allowance: u64, kinds: &[u8], numbers: &[u64], count: usize) {
+fn run_items(width: u64, allowance: u64, kinds: &[u8], numbers: &[u64], count: usize) -> u8 {
     if kinds.len() < count {
-        return;
+        return WRONG;
     }
     if numbers.len() < count {
-        return;
+        return WRONG;
     }
     show(
         run(width, &kinds[..count], &numbers[..count], allowance),
         kinds,
-    );
+    )
 }
 
-// A recipe has at most 256 items, so a 257th is taken for the library to refuse, and none after it is looked at.
-fn item_count() -> usize {
-    let words = os::arg_count();
+// How many items so many words of the command line have. A recipe has at most 256 items, so a 257th is taken for the
+// library to refuse, and none after it is looked at.
+fn item_count(words: usize) -> usize {
     if words < 4 {
         return 0;
     }
@@ -134,31 +143,30 @@ fn item_count() -> usize {
     words - 4
 }
 
-fn run_words(width: u64, allowance: u64) {
+fn run_words(width: u64, allowance: u64, count: usize) -> u8 {
     let mut kinds_space = [0u8; 257];
     let kinds: &mut [u8] = &mut kinds_space;
     let mut numbers_space = [0u64; 257];
     let numbers: &mut [u64] = &mut numbers_space;
-    let count = item_count();
     if take_items(count, kinds, numbers) {
-        run_items(width, allowance, kinds, numbers, count);
+        return run_items(width, allowance, kinds, numbers, count);
     }
+    WRONG
 }
 
-pub(crate) fn run_command() {
-    if os::arg_count() < 4 {
-        complain(
+pub(crate) fn run_command(words: usize) -> u8 {
+    if words < 4 {
+        return complain(
             b"razo: '",
             b"run",
             b"' takes WIDTH, ALLOWANCE and the words of a recipe\n",
         );
-        return;
     }
     let Given::Number(width) = number_at(2, b"razo: WIDTH, '") else {
-        return;
+        return WRONG;
     };
     let Given::Number(allowance) = number_at(3, b"razo: ALLOWANCE, '") else {
-        return;
+        return WRONG;
     };
-    run_words(width, allowance);
+    run_words(width, allowance, item_count(words))
 }

@@ -1,5 +1,8 @@
 // What a run answers, in lines.
 use crate::reason::reason;
+use crate::status::FOUND;
+use crate::status::WELL;
+use crate::status::told;
 use crate::text::count_set;
 use crate::text::first;
 use crate::text::put_form;
@@ -170,10 +173,25 @@ fn put_run(line: &mut [u8], run: Run, kinds: &[u8]) -> usize {
     }
 }
 
-// The run of the recipe whose kinds are lent.
-pub(crate) fn show(run: Run, kinds: &[u8]) {
+fn status_of_value(value: Checked64) -> u8 {
+    match value {
+        Checked64::Fits(_) => WELL,
+        Checked64::Overflowed => FOUND,
+    }
+}
+
+fn status_of(answer: Answer) -> u8 {
+    match answer {
+        Answer::Value(value) => status_of_value(value),
+        Answer::Refused(_, _) => FOUND,
+    }
+}
+
+// The run of the recipe whose kinds are lent. It gives the status.
+pub(crate) fn show(run: Run, kinds: &[u8]) -> u8 {
+    let answer = run.answer;
     let mut space = io::buffer();
     let line: &mut [u8] = &mut space;
     let at = put_run(line, run, kinds);
-    write_out(line, at);
+    told(write_out(line, at), status_of(answer))
 }

@@ -1,4 +1,5 @@
 // Words that are compared, and lines that are made and written out.
+use crate::status::WRONG;
 use libc::STDERR_FILENO;
 use libc::STDOUT_FILENO;
 use lines::put::number;
@@ -88,38 +89,77 @@ pub(crate) fn write_out(lines: &[u8], n: usize) -> bool {
     written
 }
 
-// Writes one line, a form with its numbers, to standard output.
-pub(crate) fn say(form: &[u8], numbers: &[u64]) {
+// Writes a line behind a file's name. It goes out at once, so that programs that write to one pipe don't cut each
+// other's lines.
+fn write_behind(name: &[u8], line: &[u8]) -> bool {
+    let mut space = [0u8; 4608];
+    let whole: &mut [u8] = &mut space;
+    let mut at = word(whole, 0, name);
+    at = word(whole, at, b":");
+    at = word(whole, at, line);
+    write_out(whole, at)
+}
+
+// Writes each of the lines behind a file's name.
+fn write_named(name: &[u8], lines: &[u8]) -> bool {
+    let mut from = 0;
+    let mut end = 0;
+    while end < lines.len() {
+        let byte = lines[end];
+        end = end + 1;
+        if byte == b'\n' {
+            if !write_behind(name, &lines[from..end]) {
+                return false;
+            }
+            from = end;
+        }
+    }
+    true
+}
+
+// Writes the first n bytes of the lines that tell of a file to standard output. Where there are several files, they are
+// named.
+pub(crate) fn write_lines(name: &[u8], named: bool, lines: &[u8], n: usize) -> bool {
+    if named {
+        return write_named(name, first(lines, n));
+    }
+    write_out(lines, n)
+}
+
+// Writes one line that tells of a file, a form with its numbers.
+pub(crate) fn say(name: &[u8], named: bool, form: &[u8], numbers: &[u64]) -> bool {
     let mut space = [0u8; 256];
     let line: &mut [u8] = &mut space;
     let at = put_form(line, 0, form, numbers);
-    write_out(line, at);
+    write_lines(name, named, line, at)
 }
 
-// One line on standard error: a word that is wrong, with what stands before and after it.
-pub(crate) fn complain(before: &[u8], said: &[u8], behind: &[u8]) {
+// One line on standard error: a word that is wrong, with what stands before and after it. It gives the status.
+pub(crate) fn complain(before: &[u8], said: &[u8], behind: &[u8]) -> u8 {
     let mut space = [0u8; 4608];
     let line: &mut [u8] = &mut space;
     let mut at = word(line, 0, before);
     at = word(line, at, said);
     at = word(line, at, behind);
     io::write_all(STDERR_FILENO, first(line, at));
+    WRONG
 }
 
 // A word that no place here holds is shown by its first bytes.
-pub(crate) fn complain_too_long(before: &[u8], said: &[u8]) {
+pub(crate) fn complain_too_long(before: &[u8], said: &[u8]) -> u8 {
     complain(
         before,
         first(said, 32),
         b"'.. is too long: words have at most 4096 bytes\n",
-    );
+    )
 }
 
-// One line on standard error: a file's name, and the system's reason why the last call on it failed.
-pub(crate) fn fail(name: &[u8]) {
+// One line on standard error: a file's name, and the system's reason why the last call on it failed. It gives the status.
+pub(crate) fn fail(name: &[u8]) -> u8 {
     let mut space = [0u8; 4608];
     let line: &mut [u8] = &mut space;
     let mut at = word(line, 0, b"razo: ");
     at = word(line, at, name);
     os::fail(first(line, at));
+    WRONG
 }

@@ -7,10 +7,11 @@ use Rattle.razo.proofs.read_command.list_parts.Statement.{statement}
 use Rattle.razo.proofs.read_command.list_parts.Tie as tie
 
 abbrev Inv-loop : tie.InvT-loop
-Inv-loop fd name part₀ lines₀ tally₀ turns₀ part lines tally turns = (length part ≡ length part₀) × (length lines ≡ length lines₀)
+Inv-loop fd name named part₀ lines₀ tally₀ turns₀ part lines tally turns =
+    (length part ≡ length part₀) × (length lines ≡ length lines₀)
 
 abbrev μ-loop : tie.MeasureT-loop
-μ-loop fd name part₀ lines₀ tally₀ turns₀ part lines tally turns = turns
+μ-loop fd name named part₀ lines₀ tally₀ turns₀ part lines tally turns = turns
 
 large-buffer-requires : tie.Need-large-buffer-requires Inv-loop μ-loop
 large-buffer-requires c κs = search needs
@@ -33,8 +34,8 @@ list-part-requires c κs = search needs
 enum-known-now-tally : tie.Need-enum-known-now-tally Inv-loop μ-loop
 enum-known-now-tally c = search needs
 
-enum-told : tie.Need-enum-told Inv-loop μ-loop
-enum-told c = search needs
+enum-known-status : tie.Need-enum-known-status Inv-loop μ-loop
+enum-known-status c = search needs
 
 returns : tie.Need-returns Inv-loop μ-loop
 returns c = search needs
@@ -64,7 +65,7 @@ list-parts-spec =
     loop-holds
     list-part-requires
     enum-known-now-tally
-    enum-told
+    enum-known-status
     returns
     sub-turns
     loop-less

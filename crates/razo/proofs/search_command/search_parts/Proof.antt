@@ -7,10 +7,10 @@ use Rattle.razo.proofs.search_command.search_parts.Statement.{statement
 use Rattle.razo.proofs.search_command.search_parts.Tie as tie
 
 abbrev Inv-loop : tie.InvT-loop
-Inv-loop fd name part₀ behind₀ turns₀ part behind turns = length part ≡ length part₀
+Inv-loop fd name named part₀ behind₀ turns₀ part behind turns = length part ≡ length part₀
 
 abbrev μ-loop : tie.MeasureT-loop
-μ-loop fd name part₀ behind₀ turns₀ part behind turns = turns
+μ-loop fd name named part₀ behind₀ turns₀ part behind turns = turns
 
 large-buffer-requires : tie.Need-large-buffer-requires Inv-loop μ-loop
 large-buffer-requires c κs = search needs
@@ -27,8 +27,8 @@ search-part-requires c κs = search needs
 enum-known-now-behind : tie.Need-enum-known-now-behind Inv-loop μ-loop
 enum-known-now-behind c = search needs
 
-enum-told : tie.Need-enum-told Inv-loop μ-loop
-enum-told c = search needs
+enum-known-status : tie.Need-enum-known-status Inv-loop μ-loop
+enum-known-status c = search needs
 
 returns : tie.Need-returns Inv-loop μ-loop
 returns c = search needs
@@ -56,7 +56,7 @@ search-parts-spec =
     loop-holds
     search-part-requires
     enum-known-now-behind
-    enum-told
+    enum-known-status
     returns
     sub-turns
     loop-less
