@@ -13,20 +13,20 @@ use Rattle.whole.specs.div-mod.{rust-div, _/ℤ_}
 use Rattle.checked.specs.Value.{checkedOf}
 use Rattle.checked.specs.declared.types.Checked64.the-variants.{Fits, Overflowed}
 use Rattle.signed.specs.Signed.{quotientOf}
-use Rattle.hosts.specs.Entry.{returned, afterwards, returnedSigned, afterwardsSigned}
+use Rattle.hosts.specs.Entry.{answerCode, answerList, signedCode, signedList}
 use Rattle.hosts.specs.Answers.{ofShape, ofRun, phaseWords, markWords}
 
 -- '7 0 quotient' is well formed at 8 bits: the place 0 and the limit, and the last nine stays; a list of one number is
 -- refused with 19, whatever the recipe is
 pub shape-told
     : let t = ofShape (shapeOf 8 (0 ∷ 0 ∷ 3 ∷ []) (7 ∷ 0 ∷ 0 ∷ [])) in
-    (returned t (9 ∷ 9 ∷ 9 ∷ []) ≡ 0) × (afterwards t (9 ∷ 9 ∷ 9 ∷ []) ≡ 0 ∷ 255 ∷ 9 ∷ [])
-    × (returned t (9 ∷ []) ≡ 19) × (afterwards t (9 ∷ []) ≡ 9 ∷ [])
-unfolding returned put shapeOf shapeAt shapeFrom kindOf
+    (answerCode t (9 ∷ 9 ∷ 9 ∷ []) ≡ 0) × (answerList t (9 ∷ 9 ∷ 9 ∷ []) ≡ 0 ∷ 255 ∷ 9 ∷ [])
+    × (answerCode t (9 ∷ []) ≡ 19) × (answerList t (9 ∷ []) ≡ 9 ∷ [])
+unfolding answerCode put shapeOf shapeAt shapeFrom kindOf
 shape-told = (refl, refl, refl, refl)
 
 -- an operation with too few values on hand: the refusal's place is written, and 0 for the limit
-pub shape-refused : afterwards (ofShape (shapeOf 8 (0 ∷ 1 ∷ []) (7 ∷ 0 ∷ []))) (9 ∷ 9 ∷ 9 ∷ []) ≡ 1 ∷ 0 ∷ 9 ∷ []
+pub shape-refused : answerList (ofShape (shapeOf 8 (0 ∷ 1 ∷ []) (7 ∷ 0 ∷ []))) (9 ∷ 9 ∷ 9 ∷ []) ≡ 1 ∷ 0 ∷ 9 ∷ []
 unfolding put shapeOf shapeAt shapeFrom kindOf
 shape-refused = refl
 
@@ -51,9 +51,9 @@ phase-told = (refl, refl)
 
 -- -7 by 2 is -3; by 0 it is refused with 1, and the list stays
 pub signed-told
-    : (afterwardsSigned (quotientOf 64 (negsuc 6) (pos 2)) (pos 9 ∷ pos 9 ∷ []) ≡ negsuc 2 ∷ pos 9 ∷ [])
-    × (returnedSigned (quotientOf 64 (negsuc 6) (pos 0)) (pos 9 ∷ []) ≡ 1)
-    × (afterwardsSigned (quotientOf 64 (negsuc 6) (pos 0)) (pos 9 ∷ []) ≡ pos 9 ∷ [])
-    × (returnedSigned (quotientOf 64 (negsuc 6) (pos 0)) [] ≡ 19)
-unfolding returnedSigned afterwardsSigned quotientOf rust-div _/ℤ_
+    : (signedList (quotientOf 64 (negsuc 6) (pos 2)) (pos 9 ∷ pos 9 ∷ []) ≡ negsuc 2 ∷ pos 9 ∷ [])
+    × (signedCode (quotientOf 64 (negsuc 6) (pos 0)) (pos 9 ∷ []) ≡ 1)
+    × (signedList (quotientOf 64 (negsuc 6) (pos 0)) (pos 9 ∷ []) ≡ pos 9 ∷ [])
+    × (signedCode (quotientOf 64 (negsuc 6) (pos 0)) [] ≡ 19)
+unfolding signedCode signedList quotientOf rust-div _/ℤ_
 signed-told = (refl, refl, refl, refl)

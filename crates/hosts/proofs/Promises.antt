@@ -1,5 +1,5 @@
 -- What the entries for hosts promise, one named theorem for each promise. An entry's contract says that it returns what
--- `returned` gives and leaves what `afterwards` gives, where t is `ofRun (runOf ..)`, `ofShape (shapeOf ..)`,
+-- `answerCode` gives and leaves what `answerList` gives, where t is `ofRun (runOf ..)`, `ofShape (shapeOf ..)`,
 -- `ofScan (scanOf ..)`, `ofReading (readingOf ..)` or `ofSearch (searchOf ..)`: so what each refusal means is said by the
 -- pages of promises of `recipe`, `shape`, `field`, `block` and `search`. `Unique` says that this leaves one answer.
 -- Assumes nothing.
@@ -27,7 +27,7 @@ use Rattle.field.specs.Range.{Scanned}
 use Rattle.layout.specs.Reading.{Reading}
 use Rattle.search.specs.Search.{Searched}
 use Rattle.recipe.specs.Run.{runOf}
-use Rattle.hosts.specs.Entry.{Told, returned, afterwards, returnedSigned, afterwardsSigned}
+use Rattle.hosts.specs.Entry.{Told, answerCode, answerList, signedCode, signedList}
 use Rattle.hosts.specs.Answers.{ofShape, ofScan, ofReading, ofSearch, ofRun, numbersBeside, marksBeside}
 use Rattle.hosts.proofs.Entries.{short-returned, roomy-returned, short-beside, roomy-beside}
 use Rattle.hosts.proofs.Signed.{short-signed-returned, roomy-signed-returned}
@@ -42,21 +42,21 @@ Room t lent = length (t .words) ≤ length lent
 
 module _ (t : Told) (lent : List ℕ) where
   -- whatever the answer is, a list without room for it is refused with 19, and stays
-  pub short-refused-first : length lent < length (t .words) → (returned t lent ≡ 19) × (afterwards t lent ≡ lent)
-  short-refused-first h = (short-returned t lent h, put-nowhere 0 (t .words) lent (omega arith))
+  pub no-room-refused-first : length lent < length (t .words) → (answerCode t lent ≡ 19) × (answerList t lent ≡ lent)
+  no-room-refused-first h = (short-returned t lent h, put-nowhere 0 (t .words) lent (omega arith))
 
   -- 19 exactly when there is no room, or it is the answer's own number
-  pub returned-19-exactly : (returned t lent ≡ 19) ↔ ((length lent < length (t .words)) ⊎ (t .code ≡ 19))
-  returned-19-exactly = (only, ⊎-elim (short-returned t lent) back)
+  pub answer-19-exactly : (answerCode t lent ≡ 19) ↔ ((length lent < length (t .words)) ⊎ (t .code ≡ 19))
+  answer-19-exactly = (only, ⊎-elim (short-returned t lent) back)
     where
-      only : returned t lent ≡ 19 → (length lent < length (t .words)) ⊎ (t .code ≡ 19)
+      only : answerCode t lent ≡ 19 → (length lent < length (t .words)) ⊎ (t .code ≡ 19)
       only e =
           elim (decLt (length lent) (length (t .words))) [
             | yes h ↦ inl h
             | no n ↦ inr (sym (roomy-returned t lent (omega arith)) ∙ e)
           ]
 
-      back : t .code ≡ 19 → returned t lent ≡ 19
+      back : t .code ≡ 19 → answerCode t lent ≡ 19
       back e =
           elim (decLt (length lent) (length (t .words))) [
             | yes h ↦ short-returned t lent h
@@ -64,10 +64,10 @@ module _ (t : Told) (lent : List ℕ) where
           ]
 
   -- any other number exactly when there is room and it is the answer's own
-  pub returned-exactly : (n : ℕ) → (n ≡ 19 → ⊥) → (returned t lent ≡ n) ↔ (Room t lent × (t .code ≡ n))
-  returned-exactly n other = (only, λ p. roomy-returned t lent (p .0) ∙ p .1)
+  pub answer-code-exactly : (n : ℕ) → (n ≡ 19 → ⊥) → (answerCode t lent ≡ n) ↔ (Room t lent × (t .code ≡ n))
+  answer-code-exactly n other = (only, λ p. roomy-returned t lent (p .0) ∙ p .1)
     where
-      only : returned t lent ≡ n → Room t lent × (t .code ≡ n)
+      only : answerCode t lent ≡ n → Room t lent × (t .code ≡ n)
       only e =
           elim (decLt (length lent) (length (t .words))) [
             | yes h ↦ absurd (other (sym e ∙ short-returned t lent h))
@@ -75,14 +75,14 @@ module _ (t : Told) (lent : List ℕ) where
           ]
 
   -- where there is room the answer's numbers stand in the first places, on a refusal too, and later ones stay
-  pub written : Room t lent → afterwards t lent ≡ t .words ++ drop (length (t .words)) lent
-  written h =
+  pub answer-written : Room t lent → answerList t lent ≡ t .words ++ drop (length (t .words)) lent
+  answer-written h =
       put-there 0 (t .words) lent (omega arith)
       ∙ ap (λ k. t .words ++ drop k lent) (let e : 0 + length (t .words) ≡ length (t .words) = omega arith in e)
 
   -- the list gets neither longer nor shorter
-  pub length-stays : length (afterwards t lent) ≡ length lent
-  length-stays =
+  pub answer-length-stays : length (answerList t lent) ≡ length lent
+  answer-length-stays =
       elim (decLt (length lent) (length (t .words))) [
         | yes h ↦ ap length (put-nowhere 0 (t .words) lent (omega arith))
         | no n ↦ length-put 0 (t .words) lent (omega arith)
@@ -109,19 +109,19 @@ marks-as-bytes = bytes-of-marks
 module _ (b numbers marks lent : List ℕ) where
   -- with 0 they hold the block's values, as `block` promises
   pub read-fills
-      : returned (ofReading (readingOf b numbers marks)) lent ≡ 0 →
+      : answerCode (ofReading (readingOf b numbers marks)) lent ≡ 0 →
       (numbersBeside b numbers marks lent ≡ numbersAfter b numbers marks)
       × (marksBeside b numbers marks lent ≡ marksAfter b numbers marks)
   read-fills e =
       let t = ofReading (readingOf b numbers marks) in
-      let r = returned-exactly t lent 0 (λ z. let f : ⊥ = omega arith in f) .0 e .0 in (
+      let r = answer-code-exactly t lent 0 (λ z. let f : ⊥ = omega arith in f) .0 e .0 in (
         roomy-beside t lent (numbersAfter b numbers marks) numbers r,
         roomy-beside t lent (marksAfter b numbers marks) marks r,
       )
 
   -- with any refusal they stay
   pub read-refused-stays
-      : (returned (ofReading (readingOf b numbers marks)) lent ≡ 0 → ⊥) →
+      : (answerCode (ofReading (readingOf b numbers marks)) lent ≡ 0 → ⊥) →
       (numbersBeside b numbers marks lent ≡ numbers) × (marksBeside b numbers marks lent ≡ marks)
   read-refused-stays n =
       elim (decLt (length lent) 3) [
@@ -141,15 +141,15 @@ module _ (b numbers marks lent : List ℕ) where
 
 module _ (a : Answer) (lent : List ℤ) where
   -- whatever the answer is, an empty list is refused with 19
-  pub signed-short-refused-first : length lent ≡ 0 → returnedSigned a lent ≡ 19
-  signed-short-refused-first = short-signed-returned a lent
+  pub signed-no-room-refused-first : length lent ≡ 0 → signedCode a lent ≡ 19
+  signed-no-room-refused-first = short-signed-returned a lent
 
   -- any number but 19 exactly when there is room and it is the answer's own
-  pub signed-returned-exactly
-      : (n : ℕ) → (n ≡ 19 → ⊥) → (returnedSigned a lent ≡ n) ↔ ((1 ≤ length lent) × (a .code ≡ n))
-  signed-returned-exactly n other = (only, λ p. roomy-signed-returned a lent (p .0) ∙ p .1)
+  pub signed-code-exactly
+      : (n : ℕ) → (n ≡ 19 → ⊥) → (signedCode a lent ≡ n) ↔ ((1 ≤ length lent) × (a .code ≡ n))
+  signed-code-exactly n other = (only, λ p. roomy-signed-returned a lent (p .0) ∙ p .1)
     where
-      only : returnedSigned a lent ≡ n → (1 ≤ length lent) × (a .code ≡ n)
+      only : signedCode a lent ≡ n → (1 ≤ length lent) × (a .code ≡ n)
       only e =
           elim (ℕ-discrete (length lent) 0) [
             | yes h ↦ absurd (other (sym e ∙ short-signed-returned a lent h))
@@ -157,12 +157,12 @@ module _ (a : Answer) (lent : List ℤ) where
           ]
 
   -- with 0 the number stands in the first place, and later ones stay
-  pub signed-written : returnedSigned a lent ≡ 0 → afterwardsSigned a lent ≡ a .number ∷ drop 1 lent
+  pub signed-written : signedCode a lent ≡ 0 → signedList a lent ≡ a .number ∷ drop 1 lent
   signed-written = number-signed-written a lent
 
   -- with a refusal all stay
-  pub signed-refused-stays : (returnedSigned a lent ≡ 0 → ⊥) → afterwardsSigned a lent ≡ lent
-  signed-refused-stays n = refused-signed-stays a lent (ne-eqb (returnedSigned a lent) 0 n)
+  pub signed-refused-stays : (signedCode a lent ≡ 0 → ⊥) → signedList a lent ≡ lent
+  signed-refused-stays n = refused-signed-stays a lent (ne-eqb (signedCode a lent) 0 n)
 
 -- ---- power-fit
 

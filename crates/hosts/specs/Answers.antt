@@ -1,4 +1,4 @@
--- Each answer as an entry gives it: the number that is returned, and those that are written, a refusal's place first.
+-- Each answer as an entry gives it: the number that is answerCode, and those that are written, a refusal's place first.
 -- Assumes nothing.
 use mathlib.Core.Bool.{cond}
 use mathlib.Core.List.{List, [], _∷_, _++_}
@@ -37,15 +37,15 @@ ofSearch s = record { code = s .code; words = s .place ∷ s .found ∷ s .posit
 -- ---- a run
 
 -- number j of a run's phase where it is this one, and 0 where it is another
-abbrev pub within : ℕ → List ℕ → ℕ → ℕ
-within which phase j = cond (eqb (getD phase 0 0) which) (getD phase j 0) 0
+abbrev pub ofPhase : ℕ → List ℕ → ℕ → ℕ
+ofPhase which phase j = cond (eqb (getD phase 0 0) which) (getD phase j 0) 0
 
 -- the phase, then a power's five numbers, then a logarithm's three
 abbrev pub phaseWords : List ℕ → List ℕ
 phaseWords phase =
     getD phase 0 0
-    ∷ within 1 phase 1 ∷ within 1 phase 2 ∷ within 1 phase 3 ∷ within 1 phase 4 ∷ within 1 phase 5
-    ∷ within 2 phase 1 ∷ within 2 phase 2 ∷ within 2 phase 3 ∷ []
+    ∷ ofPhase 1 phase 1 ∷ ofPhase 1 phase 2 ∷ ofPhase 1 phase 3 ∷ ofPhase 1 phase 4 ∷ ofPhase 1 phase 5
+    ∷ ofPhase 2 phase 1 ∷ ofPhase 2 phase 2 ∷ ofPhase 2 phase 3 ∷ []
 
 -- the 32 marks in four numbers of eight bytes, the lowest first: so they lie in memory as 32 bytes
 abbrev pub markWords : List ℕ → List ℕ

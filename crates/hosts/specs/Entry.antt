@@ -11,18 +11,18 @@ use Rattle.signed.specs.Signed.{Answer}
 
 -- ---- answers of several numbers
 
--- the number that is returned, and the numbers that are written
+-- the number that is answerCode, and the numbers that are written
 pub record Told : Type 0 where
   pub code : ℕ
   pub words : List ℕ
 
 -- a list without room for all of them is refused with 19 before anything else is looked at
-unfoldable pub returned : Told → List ℕ → ℕ
-returned t lent = cond (ltb (length lent) (length (t .words))) 19 (t .code)
+unfoldable pub answerCode : Told → List ℕ → ℕ
+answerCode t lent = cond (ltb (length lent) (length (t .words))) 19 (t .code)
 
 -- where there is room they are written, on a refusal too, and later places stay; otherwise all stay
-abbrev pub afterwards : Told → List ℕ → List ℕ
-afterwards t lent = put 0 (t .words) lent
+abbrev pub answerList : Told → List ℕ → List ℕ
+answerList t lent = put 0 (t .words) lent
 
 -- another list that the entry writes to, with what it would hold: it stays where the answer has no room
 unfoldable pub besides : Told → List ℕ → List ℕ → List ℕ → List ℕ
@@ -30,9 +30,9 @@ besides t lent written old = cond (ltb (length lent) (length (t .words))) old wr
 
 -- ---- an answer of one signed number
 
-unfoldable pub returnedSigned : Answer → List ℤ → ℕ
-returnedSigned a lent = cond (eqb (length lent) 0) 19 (a .code)
+unfoldable pub signedCode : Answer → List ℤ → ℕ
+signedCode a lent = cond (eqb (length lent) 0) 19 (a .code)
 
 -- with 0 the number is written and later places stay; otherwise all stay
-unfoldable pub afterwardsSigned : Answer → List ℤ → List ℤ
-afterwardsSigned a lent = cond (eqb (returnedSigned a lent) 0) (a .number ∷ drop 1 lent) lent
+unfoldable pub signedList : Answer → List ℤ → List ℤ
+signedList a lent = cond (eqb (signedCode a lent) 0) (a .number ∷ drop 1 lent) lent

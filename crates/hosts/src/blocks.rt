@@ -12,7 +12,7 @@ ghost use mathlib.Core.Path.{_≡_};
 ghost use Rattle.layout.specs.Reading.{readingOf};
 ghost use Rattle.block.specs.Answers.{soundOf};
 ghost use Rattle.search.specs.Search.{searchOf};
-ghost use Rattle.hosts.specs.Entry.{returned, afterwards};
+ghost use Rattle.hosts.specs.Entry.{answerCode, answerList};
 ghost use Rattle.hosts.specs.Answers.{ofReading, ofSearch, numbersBeside, marksBeside};
 
 // The refusal's place, which is 0, with the block's number and count.
@@ -39,11 +39,11 @@ pub extern "C" fn razovinto_read(
     answer: &mut [u64],
 ) -> u32
     ensures { λ r. ⌜
-        r ≡ returned (ofReading (readingOf (now (block .entry)) (now (numbers .entry)) (now (marks .entry)))) (now (answer .entry))
+        r ≡ answerCode (ofReading (readingOf (now (block .entry)) (now (numbers .entry)) (now (marks .entry)))) (now (answer .entry))
         ⌝ }
     ensures { λ r. ⌜
         now (answer .exit) ≡
-        afterwards (ofReading (readingOf (now (block .entry)) (now (numbers .entry)) (now (marks .entry)))) (now (answer .entry))
+        answerList (ofReading (readingOf (now (block .entry)) (now (numbers .entry)) (now (marks .entry)))) (now (answer .entry))
         ⌝ }
     ensures { λ r. ⌜
         now (numbers .exit) ≡
@@ -71,8 +71,8 @@ pub extern "C" fn razovinto_read(
 
 #[no_mangle]
 pub extern "C" fn razovinto_search(run: &[u8], answer: &mut [u64]) -> u32
-    ensures { λ r. ⌜ r ≡ returned (ofSearch (searchOf (now (run .entry)))) (now (answer .entry)) ⌝ }
-    ensures { λ r. ⌜ now (answer .exit) ≡ afterwards (ofSearch (searchOf (now (run .entry)))) (now (answer .entry)) ⌝ }
+    ensures { λ r. ⌜ r ≡ answerCode (ofSearch (searchOf (now (run .entry)))) (now (answer .entry)) ⌝ }
+    ensures { λ r. ⌜ now (answer .exit) ≡ answerList (ofSearch (searchOf (now (run .entry)))) (now (answer .entry)) ⌝ }
 {
     if answer.len() < FOUND_LENGTH {
         return too_short();

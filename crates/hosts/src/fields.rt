@@ -5,7 +5,7 @@ use field::scan::scan;
 use field::types::Scan;
 ghost use mathlib.Core.Path.{_≡_};
 ghost use Rattle.field.specs.Range.{scanOf};
-ghost use Rattle.hosts.specs.Entry.{returned, afterwards};
+ghost use Rattle.hosts.specs.Entry.{answerCode, answerList};
 ghost use Rattle.hosts.specs.Answers.{ofScan};
 
 // The refusal's place, or 0 with least, greatest and packing width.
@@ -13,9 +13,9 @@ const RANGE_LENGTH: usize = 4;
 
 #[no_mangle]
 pub extern "C" fn razovinto_scan(numbers: &[u64], marks: &[u8], answer: &mut [u64]) -> u32
-    ensures { λ r. ⌜ r ≡ returned (ofScan (scanOf (now (numbers .entry)) (now (marks .entry)))) (now (answer .entry)) ⌝ }
+    ensures { λ r. ⌜ r ≡ answerCode (ofScan (scanOf (now (numbers .entry)) (now (marks .entry)))) (now (answer .entry)) ⌝ }
     ensures { λ r. ⌜
-        now (answer .exit) ≡ afterwards (ofScan (scanOf (now (numbers .entry)) (now (marks .entry)))) (now (answer .entry))
+        now (answer .exit) ≡ answerList (ofScan (scanOf (now (numbers .entry)) (now (marks .entry)))) (now (answer .entry))
         ⌝ }
 {
     if answer.len() < RANGE_LENGTH {

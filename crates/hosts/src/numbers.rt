@@ -9,7 +9,7 @@ ghost use mathlib.Core.Bool.{cond};
 ghost use lib.ListN.{length};
 ghost use Rattle.fit.specs.Fit.{powerFits};
 ghost use Rattle.signed.specs.Signed.{answer64, quotientOf, remainderOf};
-ghost use Rattle.hosts.specs.Entry.{returnedSigned, afterwardsSigned};
+ghost use Rattle.hosts.specs.Entry.{signedCode, signedList};
 use signed::types::Signed64;
 
 // 1 where the power fits 64 bits, 0 where it doesn't.
@@ -25,8 +25,8 @@ pub extern "C" fn razovinto_power_fits(base: u64, exponent: u64) -> u32
 
 fn put_signed(result: &mut [i64], answer: Signed64) -> u32
     requires { ⌜ 1 ≤ length (now result) ⌝ }
-    ensures { λ r. ⌜ r ≡ returnedSigned (answer64 answer) (now (result .entry)) ⌝ }
-    ensures { λ r. ⌜ now (result .exit) ≡ afterwardsSigned (answer64 answer) (now (result .entry)) ⌝ }
+    ensures { λ r. ⌜ r ≡ signedCode (answer64 answer) (now (result .entry)) ⌝ }
+    ensures { λ r. ⌜ now (result .exit) ≡ signedList (answer64 answer) (now (result .entry)) ⌝ }
 {
     match answer {
         Signed64::Number(n) => {
@@ -39,8 +39,8 @@ fn put_signed(result: &mut [i64], answer: Signed64) -> u32
 
 #[no_mangle]
 pub extern "C" fn razovinto_signed_quotient(left: i64, right: i64, result: &mut [i64]) -> u32
-    ensures { λ r. ⌜ r ≡ returnedSigned (quotientOf 64 left right) (now (result .entry)) ⌝ }
-    ensures { λ r. ⌜ now (result .exit) ≡ afterwardsSigned (quotientOf 64 left right) (now (result .entry)) ⌝ }
+    ensures { λ r. ⌜ r ≡ signedCode (quotientOf 64 left right) (now (result .entry)) ⌝ }
+    ensures { λ r. ⌜ now (result .exit) ≡ signedList (quotientOf 64 left right) (now (result .entry)) ⌝ }
 {
     if result.len() < 1 {
         return too_short();
@@ -50,8 +50,8 @@ pub extern "C" fn razovinto_signed_quotient(left: i64, right: i64, result: &mut 
 
 #[no_mangle]
 pub extern "C" fn razovinto_signed_remainder(left: i64, right: i64, result: &mut [i64]) -> u32
-    ensures { λ r. ⌜ r ≡ returnedSigned (remainderOf left right) (now (result .entry)) ⌝ }
-    ensures { λ r. ⌜ now (result .exit) ≡ afterwardsSigned (remainderOf left right) (now (result .entry)) ⌝ }
+    ensures { λ r. ⌜ r ≡ signedCode (remainderOf left right) (now (result .entry)) ⌝ }
+    ensures { λ r. ⌜ now (result .exit) ≡ signedList (remainderOf left right) (now (result .entry)) ⌝ }
 {
     if result.len() < 1 {
         return too_short();

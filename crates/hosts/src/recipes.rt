@@ -19,7 +19,7 @@ ghost use lib.Seq.{sets};
 ghost use Rattle.checked.specs.Paper.{given};
 ghost use Rattle.shape.specs.Shape.{shapeOf};
 ghost use Rattle.recipe.specs.Run.{answerOf, paper, runOf};
-ghost use Rattle.hosts.specs.Entry.{returned, afterwards};
+ghost use Rattle.hosts.specs.Entry.{answerCode, answerList};
 ghost use Rattle.hosts.specs.Answers.{ofShape, ofRun};
 
 // The refusal's place, or 0 with the largest number of the width.
@@ -36,11 +36,11 @@ pub extern "C" fn razovinto_shape(
     answer: &mut [u64],
 ) -> u32
     ensures { λ r. ⌜
-        r ≡ returned (ofShape (shapeOf width (now (kinds .entry)) (now (numbers .entry)))) (now (answer .entry))
+        r ≡ answerCode (ofShape (shapeOf width (now (kinds .entry)) (now (numbers .entry)))) (now (answer .entry))
         ⌝ }
     ensures { λ r. ⌜
         now (answer .exit) ≡
-        afterwards (ofShape (shapeOf width (now (kinds .entry)) (now (numbers .entry)))) (now (answer .entry))
+        answerList (ofShape (shapeOf width (now (kinds .entry)) (now (numbers .entry)))) (now (answer .entry))
         ⌝ }
 {
     if answer.len() < SHAPE_LENGTH {
@@ -119,11 +119,11 @@ pub extern "C" fn razovinto_run(
     answer: &mut [u64],
 ) -> u32
     ensures { λ r. ⌜
-        r ≡ returned (ofRun (runOf width (now (kinds .entry)) (now (numbers .entry)) allowance)) (now (answer .entry))
+        r ≡ answerCode (ofRun (runOf width (now (kinds .entry)) (now (numbers .entry)) allowance)) (now (answer .entry))
         ⌝ }
     ensures { λ r. ⌜
         now (answer .exit) ≡
-        afterwards (ofRun (runOf width (now (kinds .entry)) (now (numbers .entry)) allowance)) (now (answer .entry))
+        answerList (ofRun (runOf width (now (kinds .entry)) (now (numbers .entry)) allowance)) (now (answer .entry))
         ⌝ }
 {
     if answer.len() < RUN_LENGTH {

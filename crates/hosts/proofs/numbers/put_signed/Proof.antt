@@ -5,7 +5,7 @@ use lib.ListN.{set}
 use mir.Syntax.{w64}
 use mir.Val.{SFits}
 use mir.Facts.{toZ-ofZ}
-use Rattle.hosts.specs.Entry.{returnedSigned, afterwardsSigned}
+use Rattle.hosts.specs.Entry.{signedCode, signedList}
 use Rattle.hosts.proofs.Signed.{number-signed-gives, refusal-signed-gives}
 use Rattle.signed.specs.Signed.{answer64}
 use Rattle.checked.proofs.Arms.{at}
@@ -35,8 +35,8 @@ returns c =
     let z = a .0 .0 in
     let f : SFits w64 z = search needs in
     let s = number-signed-gives z (g .result .now) (c .before .before .before .pre) in (
-      at (λ x. returnedSigned (answer64 x) (g .result .now)) (s .0) (a .1),
-      at (λ x. afterwardsSigned (answer64 x) (g .result .now)) (ap (set (g .result .now) 0) (toZ-ofZ f) ∙ s .1) (a .1),
+      at (λ x. signedCode (answer64 x) (g .result .now)) (s .0) (a .1),
+      at (λ x. signedList (answer64 x) (g .result .now)) (ap (set (g .result .now) 0) (toZ-ofZ f) ∙ s .1) (a .1),
     )
 
 returns-2 : tie.Need-returns-2
@@ -44,8 +44,8 @@ returns-2 c =
     let g = c .before .before .before .before .args in
     let a = c .before .before .answer2 .given in
     let s = refusal-signed-gives (a .0 .0) (g .result .now) (c .before .before .before .before .pre) in (
-      at (λ x. returnedSigned (answer64 x) (g .result .now)) (c .number .ensures ∙ s .0) (a .1),
-      at (λ x. afterwardsSigned (answer64 x) (g .result .now)) (s .1) (a .1),
+      at (λ x. signedCode (answer64 x) (g .result .now)) (c .number .ensures ∙ s .0) (a .1),
+      at (λ x. signedList (answer64 x) (g .result .now)) (s .1) (a .1),
     )
 
 pub put-signed-spec : {M : Type 1} → statement M
