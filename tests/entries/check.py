@@ -7,7 +7,8 @@ theorem is named on the pages that isn't there.
 A function is written `crate::module::name`, a method `crate::Type::name`. A program has no public function, since
 nothing outside it calls one: its functions are `pub(crate)` or private. A row names under 'unique by' the theorem that no other
 answer meets the contract. Every must-fail edit of the crates must be named on the page too, and every edit that the
-page names must be there.
+page names must be there. The table 'Doors' must have every function of the libraries, by its name or by its module's
+or type's; every entry for C, which the header must have too; and every function of the Python module.
 
 A theorem is named on README.md, docs/ENTRIES.md and docs/DECISIONS.md in backquotes, as lowercase words joined by
 dashes, `count-bounded`; or with its page before it, `Closed.log-equation`, as a name of one word always is. It must be
@@ -16,6 +17,7 @@ ends with a page of a crate, `recipe.Promises`, the names in the cell before it 
 `pub use`.
 It prints what is wrong, a line each, and then exits 1.
 """
+import ast
 import glob
 import os
 import re
@@ -25,6 +27,9 @@ TOP = os.path.dirname(os.path.dirname(os.path.dirname(os.path.abspath(__file__))
 FUNCTION = re.compile(r'^(\s*)(?:#\[[^\]]*\]\s*)?pub (?:extern "C" )?fn ([A-Za-z_0-9]+)')
 METHODS_OF = re.compile(r"^impl ([A-Za-z_0-9]+) \{")
 OF_FUNCTION = re.compile(r"\| `[a-z_0-9]+::")
+DOORS = "\n## Doors\n"
+FOR_HOSTS = ("razovinto", "hosts")
+ENTRY = re.compile(r'^pub extern "C" fn ([a-z_0-9]+)', re.M)
 NAMING = ("README.md", "docs/ENTRIES.md", "docs/DECISIONS.md")
 DASHED = r"[a-z0-9^]+(?:-[a-z0-9^]+)+"
 THEOREM = re.compile(rf"`({DASHED}|[A-Z][A-Za-z]*\.(?!antt`)[a-z0-9^-]+)`")
@@ -66,13 +71,17 @@ def public_functions(text):
             yield owner, function.group(2), set(re.findall(r"^\s*(requires|ensures)\b", "\n".join(head), re.M))
 
 
+def full_name(crate, module, owner, name):
+    middle = owner or (None if module == "lib" else module)
+    return "::".join(part for part in (crate, middle, name) if part)
+
+
 def function_faults(files, named):
     """What is wrong with public functions, and how many there are."""
     faults, count = [], 0
     for crate, program, module, text in files:
         for owner, name, clauses in public_functions(text):
-            middle = owner or (None if module == "lib" else module)
-            full = "::".join(part for part in (crate, middle, name) if part)
+            full = full_name(crate, module, owner, name)
             if program:
                 faults.append(f"{full} is public in a program")
                 continue
@@ -100,6 +109,45 @@ def row_faults(page):
         elif OF_FUNCTION.match(row) and (column is None or not THEOREM.search(cells[column])):
             faults.append(f"docs/ENTRIES.md, line {number}: {cells[0]} has no theorem under 'unique by'")
     return faults
+
+
+def in_python():
+    """The functions that the Python module shows."""
+    for statement in ast.parse(read("python", "razovinto.py")).body:
+        if isinstance(statement, ast.Assign) and statement.targets[0].id == "__all__":
+            return {name for name in ast.literal_eval(statement.value) if name.islower()}
+    return set()
+
+
+def door_faults(table, files):
+    """Which function has no door and no word why, and which door isn't there."""
+    rows = [cells_of(row) for row in table.split("\n") if row.startswith("| `")]
+    columns = [{n for row in rows for n in re.findall(r"`([^`\s]+)`", row[i])} for i in range(3)]
+    libraries = [(c, m, text) for c, program, m, text in files if not program and c not in FOR_HOSTS]
+    functions = {full_name(c, m, owner, n) for c, m, text in libraries for owner, n, _ in public_functions(text)}
+    entries = {n for c, _, _, text in files if c in FOR_HOSTS for n in ENTRY.findall(text)}
+    header = read("include", "razovinto.h")
+    faults = [
+        f"{f} isn't among the doors" for f in sorted(functions) if not any(f == n or f.startswith(n + "::") for n in columns[0])
+    ]
+    faults += [
+        f"the doors have {n}, which is no function" for n in sorted(columns[0])
+        if not any(f == n or f.startswith(n + "::") for f in functions)
+    ]
+    faults += [f"{e} isn't in the header" for e in sorted(entries) if f" {e}(" not in header]
+    faults += [f"the entry {e} isn't among the doors" for e in sorted(entries - columns[1])]
+    faults += [
+        f"the doors have {n}, which the header doesn't have" for n in sorted(columns[1])
+        if n.startswith("razovinto_") and f"{n}(" not in header
+    ]
+    faults += [f"Python's {n} isn't among the doors" for n in sorted(in_python() - columns[2])]
+    return faults
+
+
+def doors_tried(table, files):
+    """The check must see a row taken out, whichever it is."""
+    rows = [row for row in table.split("\n") if row.startswith("| `")]
+    return bool(rows) and all(door_faults(table.replace(row, ""), files) for row in rows)
 
 
 def edit_faults(named):
@@ -187,26 +235,28 @@ def tried(texts, pages):
 
 
 def main():
-    page = read("docs", "ENTRIES.md")
+    page, _, table = read("docs", "ENTRIES.md").partition(DOORS)
     named = set(re.findall(r"`([^`\s]+)`", page))
     files = list(sources())
     faults, functions = function_faults(files, named)
     more, edits = edit_faults(named)
     texts, pages = {file: read(file) for file in NAMING}, declarations()
     wrong, theorems = theorem_faults(texts, pages)
-    faults += row_faults(page) + more + wrong
+    faults += row_faults(page) + more + wrong + door_faults(table, files)
     if not faults and not tried(texts, pages):
         faults.append("tests/entries/check.py: a damaged page passes")
     if not faults and not row_tried(page):
         faults.append("tests/entries/check.py: a row without 'unique by' passes")
     if not faults and not program_tried(files, named):
         faults.append("tests/entries/check.py: a public function in a program passes")
+    if not faults and not doors_tried(table, files):
+        faults.append("tests/entries/check.py: a table of doors without a row passes")
     for fault in faults:
         print(f"entries: {fault}", file=sys.stderr)
     if faults:
         sys.exit(1)
     print(f"entries: {functions} public functions, each with a promise and a row; {edits} must-fail edits, each named")
-    print(f"entries: {theorems} theorems named on the pages, each found")
+    print(f"entries: {theorems} theorems named on the pages, each found; a door or a word why for each function")
 
 
 if __name__ == "__main__":

@@ -28,7 +28,7 @@ module _ (t : Told) (lent : List ℕ) where
   unfolding besides
   roomy-beside written old h = ap (λ b. cond b old written) (le-ltb (length lent) (length (t .words)) h)
 
-  -- whatever the answer is, 19 is answerCode and the list stays
+  -- whatever the answer is, 19 is returned and the list stays
   pub short-gives
       : {r : ℕ} → length lent < length (t .words) → r ≡ 19 → (r ≡ answerCode t lent) × (lent ≡ answerList t lent)
   short-gives h e = (e ∙ sym (short-returned h), sym (put-nowhere 0 (t .words) lent (omega arith)))

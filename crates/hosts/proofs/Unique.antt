@@ -38,7 +38,7 @@ host-read-unique b numbers marks lent r s now ns ms now' ns' ms' g h =
       value-unique ms ms' (marksBeside b numbers marks lent) (g .3) (h .3),
     )
 
--- the signed quotient and remainder: the number that is answerCode, and the list of one signed number
+-- the signed quotient and remainder: the number that is returned, and the list of one signed number
 pub host-signed-unique
     : (a : Answer) (lent : List ℤ) (r s : ℕ) (now other : List ℤ) →
     (r ≡ signedCode a lent) × (now ≡ signedList a lent) →

@@ -1,4 +1,4 @@
--- Each answer as an entry gives it: the number that is answerCode, and those that are written, a refusal's place first.
+-- Each answer as an entry gives it: the number that is returned, and those that are written, a refusal's place first.
 -- Assumes nothing.
 use mathlib.Core.Bool.{cond}
 use mathlib.Core.List.{List, [], _∷_, _++_}

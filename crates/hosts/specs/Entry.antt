@@ -11,7 +11,7 @@ use Rattle.signed.specs.Signed.{Answer}
 
 -- ---- answers of several numbers
 
--- the number that is answerCode, and the numbers that are written
+-- the number that is returned, and the numbers that are written
 pub record Told : Type 0 where
   pub code : ℕ
   pub words : List ℕ

@@ -35,7 +35,7 @@ pub(crate) fn put_four(answer: &mut [u64], first: u64, second: u64, third: u64, 
     answer[3] = fourth;
 }
 
-// What is answerCode where a list is too short, whatever the answer would be.
+// What is returned where a list is too short, whatever the answer would be.
 pub(crate) fn too_short() -> u32
     ensures { λ r. ⌜ r ≡ 19 ⌝ }
 {
