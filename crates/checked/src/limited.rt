@@ -92,7 +92,7 @@ pub fn checked_pow(limit: u64, base: u64, exponent: u64) -> Checked64
         }
     }
     if left == 1 {
-        return checked_mul(limit, second, first);
+        return checked_mul(limit, first, second);
     }
     checked_of(limit, first)
 }

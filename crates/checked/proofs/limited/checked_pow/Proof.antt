@@ -3,7 +3,7 @@
 -- Assumes nothing.
 use mathlib.Core.Path.{_≡_, ap, ap₂, sym, _∙_, subst}
 use Prim.Native.Nat.{_*_, _/_, _^_, _≤_, _<_}
-use native.Mathlib.Nat.{mul-comm, one-mul}
+use native.Mathlib.Nat.{one-mul}
 use native.Mathlib.Omega.{arith}
 use borrow.Author.Needs.{needs}
 use Rattle.checked.specs.Value.{checkedOf}
@@ -82,7 +82,7 @@ returns-2 c =
     let g = c .before .before .before .before .args in
     let l = c .before .before .before .loop in
     let d = last-digit-left (l .first) (l .second) (l .left) (c .before .if1 .taken) in
-    c .checked-mul .ensures ∙ ap (checkedOf (g .limit)) (mul-comm (l .second) (l .first) ∙ d ∙ l .inv .0)
+    c .checked-mul .ensures ∙ ap (checkedOf (g .limit)) (d ∙ l .inv .0)
 
 checked-of-requires : tie.Need-checked-of-requires Inv-loop μ-loop
 checked-of-requires c κs = search needs
