@@ -1,30 +1,31 @@
--- A logarithm by multiplying up: what a step does to the power.
+-- A logarithm by multiplying up: the next power, and what a power says of the logarithm.
 -- Assumes nothing.
 use mathlib.Core.Path.{_≡_, ap, sym, _∙_}
-use Prim.Native.Nat.{ℕ, zero, suc, _+_, _*_, _/_, _^_, _≤_, _<_}
-use native.Mathlib.Nat.{pow-zero, pow-suc, le-div-iff-mul-le, div-lt-iff-lt-mul, mul-le-mul-left, pow-le-pow-left}
-use native.Mathlib.Decide.{decLt}
+use Prim.Native.Nat.{ℕ, zero, suc, _+_, _*_, _^_, _≤_, _<_}
+use native.Mathlib.Nat.{pow-zero, pow-suc, mul-le-mul-left, pow-le-pow-left, pow-le-pow-right}
+use native.Mathlib.Decide.{decLt, decLe}
 use lib.Pow.{pow-mono}
 use Rattle.whole.specs.logarithm.{log-of}
 use Rattle.whole.proofs.Naturals.{log-of-zero, log-of-floor}
 use native.Mathlib.Numerals.{add-one}
 use native.Mathlib.Omega.{arith}
 
-module _ (base n power count : ℕ) (b : 1 < base) (e : power ≡ base ^ count) where
-  pub next-power : power * base ≡ base ^ (count + 1)
-  next-power = ap (λ p. p * base) e ∙ sym (pow-suc base count) ∙ ap (λ k. base ^ k) (sym (add-one count))
+pub next-power : (base power count : ℕ) → power ≡ base ^ suc count → power * base ≡ base ^ suc (count + 1)
+next-power base power count e =
+    ap (λ p. p * base) e ∙ sym (pow-suc base (suc count)) ∙ ap (λ k. base ^ suc k) (sym (add-one count))
 
-  pub next-larger : 0 < power → power < power * base
-  next-larger h = omega (arith, mul-le-mul-left power b)
-
-  pub next-within : power ≤ n / base → power * base ≤ n
-  next-within h = let p : 0 < base = omega arith in le-div-iff-mul-le p .0 h
-
-  pub next-beyond : n / base < power → n < base ^ suc count
-  next-beyond h =
-      let p : 0 < base = omega arith in
-      let l = div-lt-iff-lt-mul p .0 h in
-      omega (arith, ap (λ p. p * base) e ∙ sym (pow-suc base count))
+-- a power that is above the argument comes after the logarithm
+pub log-before : (l r e : ℕ) → 1 < l → r < l ^ suc e → log-of l r ≤ e
+log-before l zero e h k = omega (arith, log-of-zero l)
+log-before l (suc r) e h k =
+    elim (decLe (log-of l (suc r)) e) [
+      | yes p ↦ p
+      | no n ↦
+          let pos : 0 < l = omega arith in
+          let after : suc e ≤ log-of l (suc r) = omega arith in
+          let f : ⊥ = omega (arith, log-of-floor l (suc r) h (omega arith) .0, pow-le-pow-right pos after) in
+          absurd f
+    ]
 
 -- ---- a logarithm is small
 

@@ -1,7 +1,6 @@
 -- The definitions of this crate: checked values over a limit, what an operation answers, and upstream's clauses on a
--- type of them; and, for its helpers, a turn of the power's loop.
+-- type of them.
 pub mod Value
 pub mod Paper
 pub mod Pair
 pub mod Clauses
-pub mod Turns

@@ -5,12 +5,11 @@ use crate::types::Answer64;
 use crate::types::Both;
 use crate::types::Checked64;
 ghost use mathlib.Core.Path.{_≡_};
-ghost use Prim.Native.Nat.{ℕ, _+_, _*_, _^_, _<_};
+ghost use Prim.Native.Nat.{ℕ, _+_, _*_, _%_, _^_, _≤_, _<_};
 ghost use Rattle.whole.specs.logarithm.{log-of};
 ghost use Rattle.checked.specs.declared.types.Checked64.the-variants.{Fits, Overflowed};
 ghost use Rattle.checked.specs.Value.{checkedOf, sumOf, productOf, bothOf};
 ghost use Rattle.checked.specs.Pair.{pair, pairOf};
-ghost use Rattle.checked.specs.Turns.{Turned};
 ghost use Rattle.checked.specs.Paper.{paper, refused, quotientOf, remainderOf, powerOf, logarithmOf, dividedBy, leftBy, logOf};
 
 // ---- on numbers
@@ -71,8 +70,9 @@ pub fn checked_rem(a: u64, b: u64) -> Answer64
     Answer64::Value(Checked64::Fits(a % b))
 }
 
-// The power of two numbers, a binary digit of the exponent at a time. The last square, which nobody needs, is not worked out, and
-// what is too large ends the work.
+// The power of two numbers, a binary digit of the exponent at a time. The last square, which nobody needs, is not
+// worked out, and a square that is too large ends the work. The first number is at most the second, unless that is 0:
+// where the square fits, so does the first number with its digit, and only the last product can be too large.
 pub fn checked_pow(limit: u64, base: u64, exponent: u64) -> Checked64
     ensures { λ r. ⌜ r ≡ checkedOf limit (base ^ exponent) ⌝ }
 {
@@ -80,19 +80,19 @@ pub fn checked_pow(limit: u64, base: u64, exponent: u64) -> Checked64
     let mut second = base;
     let mut left = exponent;
     while 1 < left {
-        match square(limit, first, second, left) {
-            Both::Numbers(now_first, now_second) => {
-                first = now_first;
-                second = now_second;
+        match checked_square(limit, second) {
+            Checked64::Fits(squared) => {
+                first = with_digit(first, second, left);
+                second = squared;
                 left = left / 2;
             }
-            Both::Overflowed => {
+            Checked64::Overflowed => {
                 return Checked64::Overflowed;
             }
         }
     }
     if left == 1 {
-        return checked_mul(limit, second, first);
+        return checked_mul(limit, first, second);
     }
     checked_of(limit, first)
 }
@@ -107,28 +107,15 @@ fn checked_square(limit: u64, n: u64) -> Checked64
     Checked64::Overflowed
 }
 
-// The second number squared, and the first with the exponent's last digit, where both are within the limit.
-fn square(limit: u64, first: u64, second: u64, left: u64) -> Both
-    requires { ⌜ (1 < left) × (0 < second → 0 < first) ⌝ }
-    ensures { λ r. ⌜ Turned limit first second left r ⌝ }
-{
-    match checked_square(limit, second) {
-        Checked64::Fits(squared) => with_digit(limit, first, second, left, squared),
-        Checked64::Overflowed => Both::Overflowed,
-    }
-}
-
-fn with_digit(limit: u64, first: u64, second: u64, left: u64, squared: u64) -> Both
-    requires { ⌜ (1 < left) × (0 < second → 0 < first) × (squared ≡ second * second) ⌝ }
-    ensures { λ r. ⌜ Turned limit first second left r ⌝ }
+// The first number with the exponent's last digit.
+fn with_digit(first: u64, second: u64, left: u64) -> u64
+    requires { ⌜ first * second ≤ 18446744073709551615 ⌝ }
+    ensures { λ r. ⌜ r ≡ first * second ^ (left % 2) ⌝ }
 {
     if left % 2 == 0 {
-        return Both::Numbers(first, squared);
+        return first;
     }
-    match checked_mul(limit, second, first) {
-        Checked64::Fits(n) => Both::Numbers(n, squared),
-        Checked64::Overflowed => Both::Overflowed,
-    }
+    first * second
 }
 
 // The logarithm of two numbers.
@@ -141,20 +128,20 @@ pub fn checked_log(base: u64, n: u64) -> Answer64
     Answer64::Value(Checked64::Fits(floor_log(base, n)))
 }
 
-// How often n can be divided by the base, by multiplying up: one division in all.
+// How often n can be divided by the base, by multiplying up. Each power is compared with the largest factor that the
+// base has within 64 bits, so that the next doesn't wrap; a compiler makes a multiplication of this test.
 fn floor_log(base: u64, n: u64) -> u64
     requires { ⌜ 1 < base ⌝ }
     ensures { λ e. ⌜ e ≡ log-of base n ⌝ }
 {
-    if n < base {
-        return 0;
-    }
-    let most = n / base;
     let mut power = base;
-    let mut count: u64 = 1;
-    while power <= most {
-        power = power * base;
+    let mut count: u64 = 0;
+    while power <= n {
         count = count + 1;
+        if 18446744073709551615 / base < power {
+            return count;
+        }
+        power = power * base;
     }
     count
 }
