@@ -193,38 +193,47 @@ static void pass_operation(function *f)
 static void pass_run(function *f)
 {
     runner *entry = (runner *)f;
-    uint64_t result[5];
-    for (int r = 0; r < RECIPES; r++) {
-        entry(64, kinds[r], ITEMS, numbers[r], ITEMS, UINT64_MAX, result);
-        sink += result[0] + result[3] + result[4];
-    }
+    struct razovinto_run run;
+    for (int r = 0; r < RECIPES; r++)
+        sink += entry(64, kinds[r], ITEMS, numbers[r], ITEMS, UINT64_MAX, RAZOVINTO_ANSWER(run)) + run.number + run.steps;
+}
+
+/* a recipe of five items again and again, so that the call itself counts */
+static void pass_short_run(function *f)
+{
+    static const uint8_t short_kinds[] = {0, 0, 1, 0, 2};
+    static const uint64_t short_numbers[] = {255, 1, 0, 0, 0};
+    runner *entry = (runner *)f;
+    struct razovinto_run run;
+    for (int r = 0; r < RECIPES; r++)
+        sink += entry(8, short_kinds, 5, short_numbers, 5, 100, RAZOVINTO_ANSWER(run)) + run.number + run.steps;
 }
 
 static void pass_scan(function *f)
 {
     scanner *entry = (scanner *)f;
-    uint64_t result[5];
-    entry(field_numbers, FIELD, field_marks, FIELD, result);
-    sink += result[2] + result[3] + result[4];
+    struct razovinto_range range;
+    sink += entry(field_numbers, FIELD, field_marks, FIELD, RAZOVINTO_ANSWER(range));
+    sink += range.least + range.greatest + range.width;
 }
 
 static void pass_read(function *f)
 {
     reader *entry = (reader *)f;
-    uint64_t values[55], result[5];
+    struct razovinto_block head;
+    uint64_t values[55];
     uint8_t marks[55];
     for (int b = 0; b < BLOCKS; b++) {
-        entry(run_of_blocks + 512 * b, 512, values, 55, marks, 55, result);
-        sink += result[2] + result[3] + values[0];
+        sink += entry(run_of_blocks + 512 * b, 512, values, 55, marks, 55, RAZOVINTO_ANSWER(head));
+        sink += head.number + head.count + values[0];
     }
 }
 
 static void pass_search(function *f)
 {
     searcher *entry = (searcher *)f;
-    uint64_t result[5];
-    entry(run_of_blocks, sizeof run_of_blocks, result);
-    sink += result[0] + result[2];
+    struct razovinto_found found;
+    sink += entry(run_of_blocks, sizeof run_of_blocks, RAZOVINTO_ANSWER(found)) + found.found;
 }
 
 /* ---- all sides must agree */
@@ -249,41 +258,41 @@ static void same_run(const char *what, function *f, function *g)
 {
     for (int r = 0; r < RECIPES; r++)
         for (uint64_t allowance = 0; allowance < 2000; allowance += 97) {
-            uint64_t a[5], b[5];
-            ((runner *)f)(64, kinds[r], ITEMS, numbers[r], ITEMS, allowance == 1940 ? UINT64_MAX : allowance, a);
-            ((runner *)g)(64, kinds[r], ITEMS, numbers[r], ITEMS, allowance == 1940 ? UINT64_MAX : allowance, b);
-            if (memcmp(a, b, sizeof a) != 0)
+            uint64_t a[50], b[50], most = allowance == 1940 ? UINT64_MAX : allowance;
+            uint32_t x = ((runner *)f)(64, kinds[r], ITEMS, numbers[r], ITEMS, most, a, 50);
+            uint32_t y = ((runner *)g)(64, kinds[r], ITEMS, numbers[r], ITEMS, most, b, 50);
+            if (x != y || memcmp(a, b, sizeof a) != 0)
                 fail(what, r);
         }
 }
 
 static void same_scan(const char *what, function *f, function *g)
 {
-    uint64_t a[5], b[5];
-    ((scanner *)f)(field_numbers, FIELD, field_marks, FIELD, a);
-    ((scanner *)g)(field_numbers, FIELD, field_marks, FIELD, b);
-    if (memcmp(a, b, sizeof a) != 0)
+    uint64_t a[4], b[4];
+    uint32_t x = ((scanner *)f)(field_numbers, FIELD, field_marks, FIELD, a, 4);
+    uint32_t y = ((scanner *)g)(field_numbers, FIELD, field_marks, FIELD, b, 4);
+    if (x != y || memcmp(a, b, sizeof a) != 0)
         fail(what, 0);
 }
 
 static void same_read(const char *what, function *f, function *g)
 {
     for (int i = 0; i < BLOCKS; i++) {
-        uint64_t x[55] = {0}, y[55] = {0}, a[5], b[5];
+        uint64_t x[55] = {0}, y[55] = {0}, a[3], b[3];
         uint8_t m[55] = {0}, n[55] = {0};
-        ((reader *)f)(run_of_blocks + 512 * i, 512, x, 55, m, 55, a);
-        ((reader *)g)(run_of_blocks + 512 * i, 512, y, 55, n, 55, b);
-        if (memcmp(a, b, sizeof a) != 0 || memcmp(x, y, sizeof x) != 0 || memcmp(m, n, sizeof m) != 0)
+        uint32_t r = ((reader *)f)(run_of_blocks + 512 * i, 512, x, 55, m, 55, a, 3);
+        uint32_t s = ((reader *)g)(run_of_blocks + 512 * i, 512, y, 55, n, 55, b, 3);
+        if (r != s || memcmp(a, b, sizeof a) != 0 || memcmp(x, y, sizeof x) != 0 || memcmp(m, n, sizeof m) != 0)
             fail(what, i);
     }
 }
 
 static void same_search(const char *what, function *f, function *g)
 {
-    uint64_t a[5], b[5];
-    ((searcher *)f)(run_of_blocks, sizeof run_of_blocks, a);
-    ((searcher *)g)(run_of_blocks, sizeof run_of_blocks, b);
-    if (memcmp(a, b, sizeof a) != 0)
+    uint64_t a[4], b[4];
+    uint32_t x = ((searcher *)f)(run_of_blocks, sizeof run_of_blocks, a, 4);
+    uint32_t y = ((searcher *)g)(run_of_blocks, sizeof run_of_blocks, b, 4);
+    if (x != y || memcmp(a, b, sizeof a) != 0)
         fail(what, 0);
 }
 
@@ -309,27 +318,27 @@ static const struct subject subjects[] = {
     {"product", any_pairs, pass_operation, same_operation, OPERATION(product), "call", PAIRS, 0, 0},
     {"quotient", any_pairs, pass_operation, same_operation, OPERATION(quotient), "call", PAIRS, 1.25, 0},
     {"remainder", any_pairs, pass_operation, same_operation, OPERATION(remainder), "call", PAIRS, 0, 0},
-    {"power", power_pairs, pass_operation, same_operation, OPERATION(power), "call", PAIRS, 0, 1},
-    {"logarithm", logarithm_pairs, pass_operation, same_operation, OPERATION(logarithm), "call", PAIRS, 0, 1},
-    {"runner, short items", short_items, pass_run, same_run, BESIDE_C(timed_run, c_run), "step", 0, 1.2, 0},
-    {"runner, powers", power_items, pass_run, same_run, BESIDE_C(timed_run, c_run), "step", 0, 1.2, 0},
-    {"runner, logarithms", logarithm_items, pass_run, same_run, BESIDE_C(timed_run, c_run), "step", 0, 1.2, 0},
-    {"reader, 55 values", full_blocks, pass_read, same_read, BESIDE_RUST(timed_read, rust_read), "block", BLOCKS, 0, 0.5},
-    {"reader, 1 value", short_blocks, pass_read, same_read, BESIDE_RUST(timed_read, rust_read), "block", BLOCKS, 0, 0.5},
-    {"search, 55 values", full_blocks, pass_search, same_search, BESIDE_RUST(timed_search, rust_search), "block", BLOCKS, 0, 0.6},
-    {"search, 1 value", short_blocks, pass_search, same_search, BESIDE_RUST(timed_search, rust_search), "block", BLOCKS, 0, 0.6},
-    {"scan", any_field, pass_scan, same_scan, BESIDE_RUST(timed_scan, rust_scan), "value", FIELD, 0, 1.05},
+    {"power", power_pairs, pass_operation, same_operation, OPERATION(power), "call", PAIRS, 1.05, 1},
+    {"logarithm", logarithm_pairs, pass_operation, same_operation, OPERATION(logarithm), "call", PAIRS, 1.1, 1},
+    {"runner, five items", short_items, pass_short_run, same_run, BESIDE_C(razovinto_run, c_run), "call", RECIPES, 0, 0},
+    {"runner, short items", short_items, pass_run, same_run, BESIDE_C(razovinto_run, c_run), "step", 0, 1.2, 0},
+    {"runner, powers", power_items, pass_run, same_run, BESIDE_C(razovinto_run, c_run), "step", 0, 1.2, 0},
+    {"runner, logarithms", logarithm_items, pass_run, same_run, BESIDE_C(razovinto_run, c_run), "step", 0, 1.2, 0},
+    {"reader, 55 values", full_blocks, pass_read, same_read, BESIDE_RUST(razovinto_read, rust_read), "block", BLOCKS, 0, 0.5},
+    {"reader, 1 value", short_blocks, pass_read, same_read, BESIDE_RUST(razovinto_read, rust_read), "block", BLOCKS, 0, 0.5},
+    {"search, 55 values", full_blocks, pass_search, same_search, BESIDE_RUST(razovinto_search, rust_search), "block", BLOCKS, 0, 0.6},
+    {"search, 1 value", short_blocks, pass_search, same_search, BESIDE_RUST(razovinto_search, rust_search), "block", BLOCKS, 0, 0.6},
+    {"scan", any_field, pass_scan, same_scan, BESIDE_RUST(razovinto_scan, rust_scan), "value", FIELD, 0, 1.05},
 };
 
 static double steps_of_recipes(void)
 {
     double steps = 0;
     for (int r = 0; r < RECIPES; r++) {
-        uint64_t result[5];
-        c_run(64, kinds[r], ITEMS, numbers[r], ITEMS, UINT64_MAX, result);
-        if (result[0] != 0)
+        struct razovinto_run run;
+        if (c_run(64, kinds[r], ITEMS, numbers[r], ITEMS, UINT64_MAX, RAZOVINTO_ANSWER(run)) != 0)
             fail("a recipe of the benchmark is refused", r);
-        steps += (double)result[4];
+        steps += (double)run.steps;
     }
     return steps;
 }

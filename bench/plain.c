@@ -1,4 +1,5 @@
 /* The six operations and the recipe's machine in plain C, for the benchmark alone. */
+#include "../include/razovinto.h"
 #include "plain.h"
 
 #include <stdbool.h>
@@ -127,19 +128,33 @@ static struct value product(uint64_t limit, struct value a, struct value b)
     return checked(limit, overflowed, n);
 }
 
-static void answer(uint64_t *result, uint64_t code, uint64_t place, struct value v, uint64_t steps)
-{
-    result[0] = code;
-    result[1] = place;
-    result[2] = v.overflowed;
-    result[3] = v.number;
-    result[4] = steps;
-}
-
 static const struct value nothing = {false, 0};
 
+/* an answer without a state: no items done, no place in use */
+static uint32_t answer(struct razovinto_run *run, uint32_t code, uint64_t place, struct value v, uint64_t steps)
+{
+    memset(run, 0, sizeof *run);
+    run->place = place;
+    run->overflowed = v.overflowed;
+    run->number = v.number;
+    run->steps = steps;
+    return code;
+}
+
+/* stopped: 20 with the items done and the hand; who stops within an operation adds its phase */
+static uint32_t stopped(struct razovinto_run *run, uint64_t done, uint64_t steps, const struct value *hand, size_t held)
+{
+    answer(run, 20, done, nothing, steps);
+    run->done = done;
+    for (size_t i = 0; i < held; i++) {
+        run->on_hand_overflowed[i] = hand[i].overflowed;
+        run->on_hand[i] = hand[i].number;
+    }
+    return 20;
+}
+
 /* the refusal's number and place, or 0 */
-static uint64_t shape(uint64_t width, uint64_t limit, const uint8_t *kinds, size_t kinds_length, const uint64_t *numbers,
+static uint32_t shape(uint64_t width, uint64_t limit, const uint8_t *kinds, size_t kinds_length, const uint64_t *numbers,
                       size_t numbers_length, uint64_t *place)
 {
     *place = 0;
@@ -170,23 +185,22 @@ static uint64_t shape(uint64_t width, uint64_t limit, const uint8_t *kinds, size
     return held > 1 ? 12 : held == 0 ? 13 : 0;
 }
 
-void c_run(uint64_t width, const uint8_t *kinds, size_t kinds_length, const uint64_t *numbers, size_t numbers_length,
-           uint64_t allowance, uint64_t *result)
+uint32_t c_run(uint64_t width, const uint8_t *kinds, size_t kinds_length, const uint64_t *numbers, size_t numbers_length,
+               uint64_t allowance, uint64_t *lent, size_t length)
 {
+    struct razovinto_run *run = (struct razovinto_run *)lent;
+    if (length < sizeof *run / 8)
+        return 19;
     uint64_t place, limit = width == 64 ? UINT64_MAX : (UINT64_C(1) << (width & 63)) - 1;
-    uint64_t code = shape(width, limit, kinds, kinds_length, numbers, numbers_length, &place);
-    if (code != 0) {
-        answer(result, code, place, nothing, 0);
-        return;
-    }
+    uint32_t code = shape(width, limit, kinds, kinds_length, numbers, numbers_length, &place);
+    if (code != 0)
+        return answer(run, code, place, nothing, 0);
     struct value hand[32];
     size_t held = 0;
     uint64_t steps = 0;
     for (size_t i = 0; i < kinds_length; i++) {
-        if (steps == allowance) {
-            answer(result, 20, i, nothing, steps);
-            return;
-        }
+        if (steps == allowance)
+            return stopped(run, i, steps, hand, held);
         steps++;
         if (kinds[i] == 0) {
             hand[held].overflowed = false;
@@ -194,10 +208,8 @@ void c_run(uint64_t width, const uint8_t *kinds, size_t kinds_length, const uint
             continue;
         }
         struct value r = hand[--held], l = hand[--held], v = nothing;
-        if (kinds[i] > 2 && (l.overflowed || r.overflowed)) {
-            answer(result, 3, i, nothing, steps);
-            return;
-        }
+        if (kinds[i] > 2 && (l.overflowed || r.overflowed))
+            return answer(run, 3, i, nothing, steps);
         switch (kinds[i]) {
         case 1:
             v = sum(limit, l, r);
@@ -207,10 +219,8 @@ void c_run(uint64_t width, const uint8_t *kinds, size_t kinds_length, const uint
             break;
         case 3:
         case 4:
-            if (r.number == 0) {
-                answer(result, 1, i, nothing, steps);
-                return;
-            }
+            if (r.number == 0)
+                return answer(run, 1, i, nothing, steps);
             v.number = kinds[i] == 3 ? l.number / r.number : l.number % r.number;
             break;
         case 5: {
@@ -219,8 +229,14 @@ void c_run(uint64_t width, const uint8_t *kinds, size_t kinds_length, const uint
             v.number = 1;
             while (exponent > 0) {
                 if (steps == allowance) {
-                    answer(result, 20, i, nothing, steps);
-                    return;
+                    stopped(run, i, steps, hand, held);
+                    run->phase = RAZOVINTO_WITHIN_POWER;
+                    run->power.first_overflowed = v.overflowed;
+                    run->power.first = v.number;
+                    run->power.second_overflowed = second.overflowed;
+                    run->power.second = second.number;
+                    run->power.exponent = exponent;
+                    return 20;
                 }
                 steps++;
                 if (exponent & 1)
@@ -232,14 +248,16 @@ void c_run(uint64_t width, const uint8_t *kinds, size_t kinds_length, const uint
         }
         default: {
             uint64_t left = r.number;
-            if (l.number < 2) {
-                answer(result, 2, i, nothing, steps);
-                return;
-            }
+            if (l.number < 2)
+                return answer(run, 2, i, nothing, steps);
             while (left >= l.number) {
                 if (steps == allowance) {
-                    answer(result, 20, i, nothing, steps);
-                    return;
+                    stopped(run, i, steps, hand, held);
+                    run->phase = RAZOVINTO_WITHIN_LOGARITHM;
+                    run->logarithm.base = l.number;
+                    run->logarithm.left = left;
+                    run->logarithm.count = v.number;
+                    return 20;
                 }
                 steps++;
                 left /= l.number;
@@ -249,5 +267,5 @@ void c_run(uint64_t width, const uint8_t *kinds, size_t kinds_length, const uint
         }
         hand[held++] = v;
     }
-    answer(result, 0, 0, hand[0], steps);
+    return answer(run, 0, 0, hand[0], steps);
 }

@@ -1,5 +1,4 @@
-/* The same functions without proofs: in C (plain.c) and in Rust (plain.rs, the names with rust_). The library's own entries are
-   declared beside them, so that each has one type. */
+/* The same functions without proofs: in C (plain.c) and in Rust (plain.rs, the names with rust_). */
 #ifndef PLAIN_H
 #define PLAIN_H
 
@@ -12,17 +11,18 @@ typedef uint32_t operation(uint64_t left, uint64_t right, uint8_t *result, size_
 operation c_sum, c_product, c_quotient, c_remainder, c_power, c_logarithm;
 operation rust_sum, rust_product, rust_quotient, rust_remainder, rust_power, rust_logarithm;
 
-/* each writes its answer's five numbers, the refusal's number and place first */
-typedef void runner(uint64_t width, const uint8_t *kinds, size_t kinds_length, const uint64_t *numbers, size_t numbers_length,
-                    uint64_t allowance, uint64_t *result);
-typedef void scanner(const uint64_t *numbers, size_t numbers_length, const uint8_t *marks, size_t marks_length, uint64_t *result);
-typedef void reader(const uint8_t *block, size_t length, uint64_t *numbers, size_t numbers_length, uint8_t *marks,
-                    size_t marks_length, uint64_t *result);
-typedef void searcher(const uint8_t *run, size_t length, uint64_t *result);
+/* as the library's entries: 0 or the refusal's number, and the answer's numbers in the lent list */
+typedef uint32_t runner(uint64_t width, const uint8_t *kinds, size_t kinds_length, const uint64_t *numbers, size_t numbers_length,
+                        uint64_t allowance, uint64_t *answer, size_t length);
+typedef uint32_t scanner(const uint64_t *numbers, size_t numbers_length, const uint8_t *marks, size_t marks_length, uint64_t *answer,
+                         size_t length);
+typedef uint32_t reader(const uint8_t *block, size_t block_length, uint64_t *numbers, size_t numbers_length, uint8_t *marks,
+                        size_t marks_length, uint64_t *answer, size_t length);
+typedef uint32_t searcher(const uint8_t *run, size_t run_length, uint64_t *answer, size_t length);
 
-runner timed_run, c_run;
-scanner timed_scan, rust_scan;
-reader timed_read, rust_read;
-searcher timed_search, rust_search;
+runner c_run;
+scanner rust_scan;
+reader rust_read;
+searcher rust_search;
 
 #endif

@@ -77,26 +77,39 @@ pub unsafe extern "C" fn rust_logarithm(base: u64, argument: u64, result: *mut u
 // ---- fields
 
 #[no_mangle]
-pub unsafe extern "C" fn rust_scan(numbers: *const u64, numbers_length: usize, marks: *const u8, marks_length: usize, result: *mut u64) {
+pub unsafe extern "C" fn rust_scan(
+    numbers: *const u64,
+    numbers_length: usize,
+    marks: *const u8,
+    marks_length: usize,
+    answer: *mut u64,
+    length: usize,
+) -> u32 {
+    if length < 4 {
+        return 19;
+    }
     let numbers = unsafe { from_raw_parts(numbers, numbers_length) };
     let marks = unsafe { from_raw_parts(marks, marks_length) };
-    unsafe { *(result as *mut [u64; 5]) = scan(numbers, marks) }
+    let (code, range) = scan(numbers, marks);
+    unsafe { *(answer as *mut [u64; 4]) = range };
+    code
 }
 
-fn scan(numbers: &[u64], marks: &[u8]) -> [u64; 5] {
+/// The refusal's number or 0, and its place or the range.
+fn scan(numbers: &[u64], marks: &[u8]) -> (u32, [u64; 4]) {
     if numbers.len() != marks.len() {
-        return [6, 0, 0, 0, 0];
+        return (6, [0; 4]);
     }
     if numbers.is_empty() {
-        return [14, 0, 0, 0, 0];
+        return (14, [0; 4]);
     }
     if let Some(place) = marks.iter().position(|&mark| mark != 0) {
         let code = if marks[place] == 1 && numbers[place] == 0 { 3 } else { 15 };
-        return [code, place as u64, 0, 0, 0];
+        return (code, [place as u64, 0, 0, 0]);
     }
     let (least, greatest) = numbers.iter().fold((u64::MAX, 0), |(least, greatest), &n| (least.min(n), greatest.max(n)));
     let width = (greatest - least).checked_ilog2().unwrap_or(0) + 1;
-    [0, 0, least, greatest, width as u64]
+    (0, [0, least, greatest, width as u64])
 }
 
 // ---- blocks
@@ -106,7 +119,7 @@ fn number(block: &[u8], place: usize) -> u64 {
 }
 
 /// The refusal's number, or 0.
-fn fault(block: &[u8]) -> u64 {
+fn fault(block: &[u8]) -> u32 {
     if block.len() != 512 {
         return 16;
     }
@@ -131,55 +144,66 @@ fn fault(block: &[u8]) -> u64 {
 #[no_mangle]
 pub unsafe extern "C" fn rust_read(
     block: *const u8,
-    length: usize,
+    block_length: usize,
     numbers: *mut u64,
     numbers_length: usize,
     marks: *mut u8,
     marks_length: usize,
-    result: *mut u64,
-) {
-    let block = unsafe { from_raw_parts(block, length) };
+    answer: *mut u64,
+    length: usize,
+) -> u32 {
+    if length < 3 {
+        return 19;
+    }
+    let block = unsafe { from_raw_parts(block, block_length) };
     let numbers = unsafe { from_raw_parts_mut(numbers, numbers_length) };
     let marks = unsafe { from_raw_parts_mut(marks, marks_length) };
-    unsafe { *(result as *mut [u64; 5]) = read(block, numbers, marks) }
+    let (code, head) = read(block, numbers, marks);
+    unsafe { *(answer as *mut [u64; 3]) = head };
+    code
 }
 
-fn read(block: &[u8], numbers: &mut [u64], marks: &mut [u8]) -> [u64; 5] {
+fn read(block: &[u8], numbers: &mut [u64], marks: &mut [u8]) -> (u32, [u64; 3]) {
     let code = fault(block);
     if code != 0 {
-        return [code, 0, 0, 0, 0];
+        return (code, [0; 3]);
     }
     let count = block[4] as usize;
     if numbers.len() < count || marks.len() < count {
-        return [19, 0, 0, 0, 0];
+        return (19, [0; 3]);
     }
     for (into, bytes) in numbers[..count].iter_mut().zip(block[8..].chunks_exact(8)) {
         *into = u64::from_le_bytes(bytes.try_into().unwrap());
     }
     marks[..count].copy_from_slice(&block[448..448 + count]);
     let own = u32::from_le_bytes(block[..4].try_into().unwrap());
-    [0, 0, own as u64, count as u64, 0]
+    (0, [0, own as u64, count as u64])
 }
 
 #[no_mangle]
-pub unsafe extern "C" fn rust_search(run: *const u8, length: usize, result: *mut u64) {
-    let run = unsafe { from_raw_parts(run, length) };
-    unsafe { *(result as *mut [u64; 5]) = search(run) }
+pub unsafe extern "C" fn rust_search(run: *const u8, run_length: usize, answer: *mut u64, length: usize) -> u32 {
+    if length < 4 {
+        return 19;
+    }
+    let run = unsafe { from_raw_parts(run, run_length) };
+    let (code, found) = search(run);
+    unsafe { *(answer as *mut [u64; 4]) = found };
+    code
 }
 
-fn search(run: &[u8]) -> [u64; 5] {
+fn search(run: &[u8]) -> (u32, [u64; 4]) {
     if run.len() % 512 != 0 {
-        return [16, 0, 0, 0, 0];
+        return (16, [0; 4]);
     }
     for (position, block) in run.chunks_exact(512).enumerate() {
         let code = fault(block);
         if code != 0 {
-            return [code, position as u64, 0, 0, 0];
+            return (code, [position as u64, 0, 0, 0]);
         }
         let count = block[4] as usize;
         if let Some(place) = block[448..448 + count].iter().position(|&mark| mark == 1) {
-            return [0, 0, 1, position as u64, place as u64];
+            return (0, [0, 1, position as u64, place as u64]);
         }
     }
-    [0; 5]
+    (0, [0; 4])
 }
