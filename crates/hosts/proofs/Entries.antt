@@ -9,7 +9,11 @@ use borrow.Author.Tests.{lt-ltb, le-ltb}
 use lib.ListN.{length}
 use lib.Seq.{sets}
 use Rattle.little.proofs.Stored.{put-stored, put-nowhere}
+use Rattle.layout.specs.Reading.{readingOf, numbersAfter, marksAfter}
+use Rattle.block.specs.declared.types.Read.{Read}
+use Rattle.block.specs.Answers.{reading}
 use Rattle.hosts.specs.Entry.{Told, answerCode, answerList, besides}
+use Rattle.hosts.specs.Answers.{ofReading, numbersBeside, marksBeside}
 
 module _ (t : Told) (lent : List ℕ) where
   pub short-returned : length lent < length (t .words) → answerCode t lent ≡ 19
@@ -49,3 +53,34 @@ arm shown told lent {x} {answer} {wanted} room e s is ensured =
     let w : shown x ≡ wanted = ap shown (sym is) ∙ ensured in
     let g = roomy-gives (told (shown x)) lent room e s in
     (g .0 ∙ ap (λ b. answerCode (told b) lent) w, g .1 ∙ ap (λ b. answerList (told b) lent) w)
+
+-- ---- the reader, with its two lists
+
+module _ (b numbers marks lent : List ℕ) where
+  abbrev told : Told
+  told = ofReading (readingOf b numbers marks)
+
+  pub read-short-gives
+      : {r : ℕ} → length lent < 3 → r ≡ 19 →
+      (r ≡ answerCode told lent)
+      × ((lent ≡ answerList told lent)
+      × ((numbers ≡ numbersBeside b numbers marks lent) × (marks ≡ marksBeside b numbers marks lent)))
+  read-short-gives h e =
+      let s = short-gives told lent h e in
+      let n = short-beside told lent (numbersAfter b numbers marks) numbers h in
+      let m = short-beside told lent (marksAfter b numbers marks) marks h in
+      (s .0, (s .1, (sym n, sym m)))
+
+  -- in an arm of the `match` on its answer, which is x there
+  pub read-gives
+      : {x answer : Read} {r : ℕ} {now ns ms : List ℕ} → 3 ≤ length lent → r ≡ ofReading (reading x) .code →
+      now ≡ sets lent 0 (ofReading (reading x) .words) → answer ≡ x → reading answer ≡ readingOf b numbers marks →
+      ns ≡ numbersAfter b numbers marks → ms ≡ marksAfter b numbers marks →
+      (r ≡ answerCode told lent)
+      × ((now ≡ answerList told lent)
+      × ((ns ≡ numbersBeside b numbers marks lent) × (ms ≡ marksBeside b numbers marks lent)))
+  read-gives {x} h e s is ensured filled marked =
+      let g = arm reading ofReading lent {x = x} h e s is ensured in
+      let n = roomy-beside told lent (numbersAfter b numbers marks) numbers h in
+      let m = roomy-beside told lent (marksAfter b numbers marks) marks h in
+      (g .0, (g .1, (filled ∙ sym n, marked ∙ sym m)))

@@ -1,23 +1,23 @@
 -- What the entries for hosts promise, one named theorem for each promise. An entry's contract says that it returns what
 -- `answerCode` gives and leaves what `answerList` gives, where t is `ofRun (runOf ..)`, `ofShape (shapeOf ..)`,
--- `ofScan (scanOf ..)`, `ofReading (readingOf ..)` or `ofSearch (searchOf ..)`: so what each refusal means is said by the
--- pages of promises of `recipe`, `shape`, `field`, `block` and `search`. `Unique` says that this leaves one answer.
+-- `ofScan (scanOf ..)`, `ofReading (readingOf ..)` or `ofSearch (searchOf ..)`: so what each refusal means is said by
+-- the pages of promises of `recipe`, `shape`, `field`, `block` and `search`. `Unique` says that this leaves one answer.
 -- Assumes nothing.
-use mathlib.Core.Path.{_≡_, refl, sym, ap, ap₂, _∙_}
+use mathlib.Core.Path.{_≡_, refl, sym, ap, _∙_}
 use mathlib.Core.Logic.{_↔_, _⊎_, inl, inr, ⊎-elim}
 use mathlib.Core.Bool.{Bool, true, false, cond}
-use mathlib.Core.List.{List, [], _∷_, _++_}
+use mathlib.Core.List.{List, _∷_, _++_}
 use Prim.Native.Nat.{ℕ, _+_, _^_, _≤_, _<_}
 use native.Mathlib.Decide.{decLt, ℕ-discrete}
 use native.Mathlib.Omega.{arith}
 use borrow.Author.Tests.{ne-eqb}
 use lib.IntN.{ℤ}
-use lib.ListN.{length, take, drop, getD}
+use lib.ListN.{length, drop, getD}
 use Rattle.checked.specs.Value.{limitOf}
 use Rattle.fit.specs.Fit.{powerFits}
 use Rattle.fit.proofs.Promises.{power-fits-exactly}
 use Rattle.signed.specs.Signed.{Answer}
-use Rattle.little.specs.Bytes.{part, bytesOf}
+use Rattle.little.specs.Bytes.{bytesOf}
 use Rattle.little.proofs.Stored.{put-there, put-nowhere, length-put}
 use Rattle.layout.specs.Reading.{readFault, readingOf, numbersAfter, marksAfter}
 use Rattle.layout.specs.Layout.{editionOf}
@@ -125,17 +125,25 @@ module _ (b numbers marks lent : List ℕ) where
       (numbersBeside b numbers marks lent ≡ numbers) × (marksBeside b numbers marks lent ≡ marks)
   read-refused-stays n =
       elim (decLt (length lent) 3) [
-        | yes h ↦ (short-beside t lent (numbersAfter b numbers marks) numbers h, short-beside t lent (marksAfter b numbers marks) marks h)
+        | yes h ↦ (short-beside t lent ns numbers h, short-beside t lent ms marks h)
         | no m ↦
-            let r : Room t lent = omega arith in
-            let s = lists-stay (editionOf b) b numbers marks (λ z. n (roomy-returned t lent r ∙ ap (λ x. x .code) (given-where-accepted (editionOf b) b numbers marks z))) in (
-              roomy-beside t lent (numbersAfter b numbers marks) numbers r ∙ s .0,
-              roomy-beside t lent (marksAfter b numbers marks) marks r ∙ s .1,
-            )
+            let room : Room t lent = omega arith in
+            let s = lists-stay (editionOf b) b numbers marks (refused room) in
+            (roomy-beside t lent ns numbers room ∙ s .0, roomy-beside t lent ms marks room ∙ s .1)
       ]
     where
       t : Told
       t = ofReading (readingOf b numbers marks)
+
+      ns : List ℕ
+      ns = numbersAfter b numbers marks
+
+      ms : List ℕ
+      ms = marksAfter b numbers marks
+
+      refused : Room t lent → readFault b numbers marks ≡ 0 → ⊥
+      refused room z =
+          n (roomy-returned t lent room ∙ ap (λ r. r .code) (given-where-accepted (editionOf b) b numbers marks z))
 
 -- ---- one signed number
 
@@ -168,8 +176,11 @@ module _ (a : Answer) (lent : List ℤ) where
 
 -- 1 exactly when the power is at most 2^64 - 1
 pub power-fits-1-exactly : (b e : ℕ) → (_≡_ {A = ℕ} (cond (powerFits b e) 1 0) 1) ↔ (b ^ e ≤ limitOf 64)
-power-fits-1-exactly b e = (λ o. power-fits-exactly b e .0 (of-one (powerFits b e) o), λ h. ap (λ t. cond t 1 0) (power-fits-exactly b e .1 h))
+power-fits-1-exactly b e = (only, λ h. ap (λ t. cond t 1 0) (power-fits-exactly b e .1 h))
   where
     of-one : (t : Bool) → _≡_ {A = ℕ} (cond t 1 0) 1 → t ≡ true
     of-one true o = refl
     of-one false o = let f : ⊥ = omega arith in absurd f
+
+    only : _≡_ {A = ℕ} (cond (powerFits b e) 1 0) 1 → b ^ e ≤ limitOf 64
+    only o = power-fits-exactly b e .0 (of-one (powerFits b e) o)

@@ -1,4 +1,4 @@
--- A run's answer in a lent list: how many numbers it has, and that its parts, stored one after the other, are the whole.
+-- A run's answer in a lent list: how many numbers it has, and that its parts, stored in turn, are the whole.
 -- Assumes nothing.
 use mathlib.Core.Path.{_≡_, refl, ap, ap₂, sym, _∙_}
 use mathlib.Core.List.{List, [], _∷_, _++_}
@@ -8,7 +8,7 @@ use lib.ListN.{length, getD, take, drop, length-drop, take-append-drop}
 use lib.Seq.{sets, take-all, drop-drop, length-take-le}
 use Rattle.checked.specs.declared.types.Checked64.the-variants.{Fits, Overflowed}
 use Rattle.checked.specs.Value.{Value}
-use Rattle.checked.specs.Paper.{given}
+use Rattle.checked.specs.Paper.{Paper, given}
 use Rattle.little.specs.Bytes.{Bytes, part, little, bytesOf}
 use Rattle.little.proofs.Little.{bytes-little, part-bytes}
 use Rattle.places.specs.Places.{table}
@@ -26,6 +26,10 @@ pub value-place : (v : Value) → 0 ≡ given v .place
 value-place (Fits n) = refl
 value-place Overflowed = refl
 
+-- an answer in numbers, with the steps and the items done, stored at the head of the list
+abbrev pub headStored : List ℕ → Paper → ℕ → ℕ → List ℕ
+headStored old p steps done = sets old 0 (p .place ∷ p .mark ∷ p .number ∷ steps ∷ done ∷ [])
+
 -- with 32 places there are 50 numbers
 pub run-words : (s : Shown) → length (s .numbers) ≡ 32 → length (ofRun s .words) ≡ 50
 run-words s n = omega arith
@@ -36,7 +40,7 @@ run-of-words W ks ns k = run-words (runOf W ks ns k) (places-shown W ks ns k .1)
 -- the answer, the phase, the marks and the numbers
 pub run-stored
     : (s : Shown) (old answered phased marked all : List ℕ) → length (s .numbers) ≡ 32 →
-    answered ≡ sets old 0 (s .answer .place ∷ s .answer .mark ∷ s .answer .number ∷ s .steps ∷ s .done ∷ []) →
+    answered ≡ headStored old (s .answer) (s .steps) (s .done) →
     phased ≡ sets answered 5 (phaseWords (s .phase)) → marked ≡ sets phased 14 (markWords (s .marks)) →
     all ≡ sets marked 18 (table (λ i. getD (s .numbers) i 0) 32) → all ≡ sets old 0 (ofRun s .words)
 run-stored s old answered phased marked all n a p m l =
@@ -66,7 +70,7 @@ pub bytes-of-marks
     ++ (bytesOf 8 (getD words 15 0) ++ (bytesOf 8 (getD words 16 0) ++ bytesOf 8 (getD words 17 0)))
     ≡ runOf W ks ns k .marks
 bytes-of-marks W ks ns k =
-    ap₂ _++_ (there 0 (omega arith)) (ap₂ _++_ (there 8 (omega arith)) (ap₂ _++_ (there 16 (omega arith)) (there 24 (omega arith))))
+    ap₂ _++_ (there 0 (omega arith)) (ap₂ _++_ (there 8 (omega arith)) last)
     ∙ four-parts marks (places-shown W ks ns k .0)
   where
     marks : List ℕ
@@ -80,3 +84,8 @@ bytes-of-marks W ks ns k =
         let room : 8 ≤ length (drop at marks) = omega (arith, length-drop at marks, places-shown W ks ns k .0) in
         ap (λ n. bytesOf n (little (part at 8 marks))) (sym (length-take-le 8 (drop at marks) room))
         ∙ bytes-little (part at 8 marks) (part-bytes at 8 marks bytes)
+
+    last
+        : bytesOf 8 (little (part 16 8 marks)) ++ bytesOf 8 (little (part 24 8 marks))
+        ≡ part 16 8 marks ++ part 24 8 marks
+    last = ap₂ _++_ (there 16 (omega arith)) (there 24 (omega arith))

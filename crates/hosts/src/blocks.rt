@@ -39,11 +39,14 @@ pub extern "C" fn razovinto_read(
     answer: &mut [u64],
 ) -> u32
     ensures { λ r. ⌜
-        r ≡ answerCode (ofReading (readingOf (now (block .entry)) (now (numbers .entry)) (now (marks .entry)))) (now (answer .entry))
+        r ≡
+        answerCode (ofReading (readingOf (now (block .entry)) (now (numbers .entry)) (now (marks .entry))))
+        (now (answer .entry))
         ⌝ }
     ensures { λ r. ⌜
         now (answer .exit) ≡
-        answerList (ofReading (readingOf (now (block .entry)) (now (numbers .entry)) (now (marks .entry)))) (now (answer .entry))
+        answerList (ofReading (readingOf (now (block .entry)) (now (numbers .entry)) (now (marks .entry))))
+        (now (answer .entry))
         ⌝ }
     ensures { λ r. ⌜
         now (numbers .exit) ≡

@@ -13,9 +13,12 @@ const RANGE_LENGTH: usize = 4;
 
 #[no_mangle]
 pub extern "C" fn razovinto_scan(numbers: &[u64], marks: &[u8], answer: &mut [u64]) -> u32
-    ensures { λ r. ⌜ r ≡ answerCode (ofScan (scanOf (now (numbers .entry)) (now (marks .entry)))) (now (answer .entry)) ⌝ }
     ensures { λ r. ⌜
-        now (answer .exit) ≡ answerList (ofScan (scanOf (now (numbers .entry)) (now (marks .entry)))) (now (answer .entry))
+        r ≡ answerCode (ofScan (scanOf (now (numbers .entry)) (now (marks .entry)))) (now (answer .entry))
+        ⌝ }
+    ensures { λ r. ⌜
+        now (answer .exit) ≡
+        answerList (ofScan (scanOf (now (numbers .entry)) (now (marks .entry)))) (now (answer .entry))
         ⌝ }
 {
     if answer.len() < RANGE_LENGTH {

@@ -1,5 +1,5 @@
-// What a host calls beyond the six operations: `recipes`, `fields`, `blocks` and `numbers` have the entries, `answer` and `state`
-// what they write.
+// What a host calls beyond the six operations: `recipes`, `fields`, `blocks` and `numbers` have the entries, `answer`
+// and `state` what they write.
 pub mod answer;
 pub mod blocks;
 pub mod fields;

@@ -25,7 +25,8 @@ ghost use Rattle.hosts.specs.Answers.{ofShape, ofRun};
 // The refusal's place, or 0 with the largest number of the width.
 const SHAPE_LENGTH: usize = 2;
 
-// The answer, the steps and the items done, the phase with its numbers, the hand's 32 marks in four numbers, and its 32 numbers.
+// The answer, the steps and the items done, the phase with its numbers, the hand's 32 marks in four numbers, and its 32
+// numbers.
 const RUN_LENGTH: usize = 50;
 
 #[no_mangle]

@@ -144,7 +144,9 @@ pub(crate) fn put_marks(lent: &mut [u64], marks: &[u8; 32])
 // Their numbers.
 pub(crate) fn put_numbers(lent: &mut [u64], numbers: &[u64; 32])
     requires { ⌜ 50 ≤ length (now lent) ⌝ }
-    ensures { λ r. ⌜ now (lent .exit) ≡ sets (now (lent .entry)) 18 (table (λ i. getD (now (numbers .entry)) i 0) 32) ⌝ }
+    ensures { λ r. ⌜
+        now (lent .exit) ≡ sets (now (lent .entry)) 18 (table (λ i. getD (now (numbers .entry)) i 0) 32)
+        ⌝ }
 {
     let mut i = 0;
     while i < 32 {

@@ -1,11 +1,7 @@
 -- `blocks::razovinto_read` meets its contract.
 -- Assumes nothing.
-use mathlib.Core.Path.{refl, sym, _∙_}
-use native.Mathlib.Omega.{arith}
-use Rattle.layout.specs.Reading.{readingOf, numbersAfter, marksAfter}
-use Rattle.block.specs.Answers.{reading}
-use Rattle.hosts.specs.Answers.{ofReading}
-use Rattle.hosts.proofs.Entries.{short-gives, short-beside, roomy-beside, arm}
+use mathlib.Core.Path.{refl}
+use Rattle.hosts.proofs.Entries.{read-short-gives, read-gives}
 use borrow.Author.Needs.{needs}
 use Rattle.hosts.proofs.blocks.razovinto_read.Statement.{statement}
 use Rattle.hosts.proofs.blocks.razovinto_read.Tie as tie
@@ -15,19 +11,11 @@ too-short-requires c κs = search needs
 
 returns : tie.Need-returns
 returns c =
-    let g = c .before .before .before .before .before .before .args in
-    let t = ofReading (readingOf (g .block .now) (g .numbers .now) (g .marks .now)) in
-    let h = c .before .if1 .taken in
-    let s = short-gives t (g .answer .now) h (c .too-short .ensures) in (
-      s .0,
-      (
-        s .1,
-        (
-          sym (short-beside t (g .answer .now) (numbersAfter (g .block .now) (g .numbers .now) (g .marks .now)) (g .numbers .now) h),
-          sym (short-beside t (g .answer .now) (marksAfter (g .block .now) (g .numbers .now) (g .marks .now)) (g .marks .now) h),
-        ),
-      ),
-    )
+    let test = c .before in
+    let start = test .before .before .before .before .before in
+    let g = start .args in
+    read-short-gives (g .block .now) (g .numbers .now) (g .marks .now) (g .answer .now) (test .if1 .taken)
+    (c .too-short .ensures)
 
 read-requires : tie.Need-read-requires
 read-requires c κs = search needs
@@ -61,20 +49,15 @@ same-length-3 c = search needs
 
 returns-2 : tie.Need-returns-2
 returns-2 c =
-    let g = c .before .before .before .before .before .before .before .before .before .before .before .before .before .before .before .before .before .before .before .args in
-    let t = ofReading (readingOf (g .block .now) (g .numbers .now) (g .marks .now)) in
-    let h = c .before .before .before .before .before .before .before .before .before .before .before .before .before .before .if1 .left in
-    let r = c .before .before .before .before .before .before .before .before .before .before .before .read .ensures in
-    let s = arm reading ofReading (g .answer .now) h refl (c .before .before .put-three .ensures) (c .before .before .before .before .before .number .given .1) (r .0) in (
-      s .0,
-      (
-        s .1,
-        (
-          r .1 .0 ∙ sym (roomy-beside t (g .answer .now) (numbersAfter (g .block .now) (g .numbers .now) (g .marks .now)) (g .numbers .now) h),
-          r .1 .1 ∙ sym (roomy-beside t (g .answer .now) (marksAfter (g .block .now) (g .numbers .now) (g .marks .now)) (g .marks .now) h),
-        ),
-      ),
-    )
+    let put = c .before .before in
+    let known = put .before .before .before in
+    let call = known .before .before .before .before .before .before in
+    let test = call .before .before .before in
+    let start = test .before .before .before .before .before in
+    let g = start .args in
+    let r = call .read .ensures in
+    read-gives (g .block .now) (g .numbers .now) (g .marks .now) (g .answer .now) (test .if1 .left) refl
+    (put .put-three .ensures) (known .number .given .1) (r .0) (r .1 .0) (r .1 .1)
 
 same-length-4 : tie.Need-same-length-4
 same-length-4 c = search needs
@@ -87,20 +70,15 @@ same-length-6 c = search needs
 
 returns-3 : tie.Need-returns-3
 returns-3 c =
-    let g = c .before .before .before .before .before .before .before .before .before .before .before .before .before .before .before .before .before .before .before .before .args in
-    let t = ofReading (readingOf (g .block .now) (g .numbers .now) (g .marks .now)) in
-    let h = c .before .before .before .before .before .before .before .before .before .before .before .before .before .before .before .if1 .left in
-    let r = c .before .before .before .before .before .before .before .before .before .before .before .before .read .ensures in
-    let s = arm reading ofReading (g .answer .now) h (c .number2 .ensures) (c .before .before .before .put-three2 .ensures) (c .before .before .before .before .before .before .refusal .given .1) (r .0) in (
-      s .0,
-      (
-        s .1,
-        (
-          r .1 .0 ∙ sym (roomy-beside t (g .answer .now) (numbersAfter (g .block .now) (g .numbers .now) (g .marks .now)) (g .numbers .now) h),
-          r .1 .1 ∙ sym (roomy-beside t (g .answer .now) (marksAfter (g .block .now) (g .numbers .now) (g .marks .now)) (g .marks .now) h),
-        ),
-      ),
-    )
+    let put = c .before .before .before in
+    let known = put .before .before .before in
+    let call = known .before .before .before .before .before .before in
+    let test = call .before .before .before in
+    let start = test .before .before .before .before .before in
+    let g = start .args in
+    let r = call .read .ensures in
+    read-gives (g .block .now) (g .numbers .now) (g .marks .now) (g .answer .now) (test .if1 .left)
+    (c .number2 .ensures) (put .put-three2 .ensures) (known .refusal .given .1) (r .0) (r .1 .0) (r .1 .1)
 
 pub razovinto-read-spec : {M : Type 1} → statement M
 razovinto-read-spec =

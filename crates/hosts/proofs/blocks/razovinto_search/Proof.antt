@@ -13,7 +13,11 @@ too-short-requires : tie.Need-too-short-requires
 too-short-requires c κs = search needs
 
 returns : tie.Need-returns
-returns c = let g = c .before .before .before .before .args in short-gives (ofSearch (searchOf (g .run .now))) (g .answer .now) (c .before .if1 .taken) (c .too-short .ensures)
+returns c =
+    let test = c .before in
+    let start = test .before .before .before in
+    let g = start .args in
+    short-gives (ofSearch (searchOf (g .run .now))) (g .answer .now) (test .if1 .taken) (c .too-short .ensures)
 
 search-requires : tie.Need-search-requires
 search-requires c κs = search needs
@@ -43,19 +47,40 @@ same-length : tie.Need-same-length
 same-length c = search needs
 
 returns-2 : tie.Need-returns-2
-returns-2 c = arm searched ofSearch (c .before .before .before .before .before .before .before .before .before .before .before .args .answer .now) (c .before .before .before .before .before .before .before .before .if1 .left) refl (c .before .before .put-four .ensures) (c .before .before .before .before .before .position .given .1) (c .before .before .before .before .before .before .before .search .ensures)
+returns-2 c =
+    let put = c .before .before in
+    let known = put .before .before .before in
+    let call = known .before .before in
+    let test = call .before in
+    let start = test .before .before .before in
+    arm searched ofSearch (start .args .answer .now) (test .if1 .left) refl (put .put-four .ensures)
+    (known .position .given .1) (call .search .ensures)
 
 same-length-2 : tie.Need-same-length-2
 same-length-2 c = search needs
 
 returns-3 : tie.Need-returns-3
-returns-3 c = arm searched ofSearch (c .before .before .before .before .before .before .before .before .before .before .args .answer .now) (c .before .before .before .before .before .before .before .if1 .left) refl (c .before .before .put-four2 .ensures) (c .before .before .before .before .enum-told .given .1) (c .before .before .before .before .before .before .search .ensures)
+returns-3 c =
+    let put = c .before .before in
+    let known = put .before .before in
+    let call = known .before .before in
+    let test = call .before in
+    let start = test .before .before .before in
+    arm searched ofSearch (start .args .answer .now) (test .if1 .left) refl (put .put-four2 .ensures)
+    (known .enum-told .given .1) (call .search .ensures)
 
 same-length-3 : tie.Need-same-length-3
 same-length-3 c = search needs
 
 returns-4 : tie.Need-returns-4
-returns-4 c = arm searched ofSearch (c .before .before .before .before .before .before .before .before .before .before .before .before .args .answer .now) (c .before .before .before .before .before .before .before .before .before .if1 .left) (c .number .ensures) (c .before .before .before .put-four3 .ensures) (c .before .before .before .before .before .before .refusal .given .1) (c .before .before .before .before .before .before .before .before .search .ensures)
+returns-4 c =
+    let put = c .before .before .before in
+    let known = put .before .before .before in
+    let call = known .before .before in
+    let test = call .before in
+    let start = test .before .before .before in
+    arm searched ofSearch (start .args .answer .now) (test .if1 .left) (c .number .ensures)
+    (put .put-four3 .ensures) (known .refusal .given .1) (call .search .ensures)
 
 pub razovinto-search-spec : {M : Type 1} → statement M
 razovinto-search-spec =

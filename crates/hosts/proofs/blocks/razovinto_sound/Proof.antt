@@ -22,7 +22,10 @@ returns : tie.Need-returns
 returns c = ap (λ l. l .code) (ap looked (sym (c .enum-told .given .1)) ∙ c .before .before .sound .ensures)
 
 returns-2 : tie.Need-returns-2
-returns-2 c = c .number .ensures ∙ ap (λ l. l .code) (ap looked (sym (c .before .before .refusal .given .1)) ∙ c .before .before .before .before .sound .ensures)
+returns-2 c =
+    let known = c .before .before in
+    let call = known .before .before in
+    c .number .ensures ∙ ap (λ l. l .code) (ap looked (sym (known .refusal .given .1)) ∙ call .sound .ensures)
 
 pub razovinto-sound-spec : {M : Type 1} → statement M
 razovinto-sound-spec =

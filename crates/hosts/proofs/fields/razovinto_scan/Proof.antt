@@ -1,7 +1,6 @@
 -- `fields::razovinto_scan` meets its contract.
 -- Assumes nothing.
 use mathlib.Core.Path.{refl}
-use native.Mathlib.Omega.{arith}
 use Rattle.field.specs.Range.{scanOf}
 use Rattle.field.specs.Answers.{scanned}
 use Rattle.hosts.specs.Answers.{ofScan}
@@ -14,7 +13,12 @@ too-short-requires : tie.Need-too-short-requires
 too-short-requires c κs = search needs
 
 returns : tie.Need-returns
-returns c = let g = c .before .before .before .before .before .args in short-gives (ofScan (scanOf (g .numbers .now) (g .marks .now))) (g .answer .now) (c .before .if1 .taken) (c .too-short .ensures)
+returns c =
+    let test = c .before in
+    let start = test .before .before .before .before in
+    let g = start .args in
+    short-gives (ofScan (scanOf (g .numbers .now) (g .marks .now))) (g .answer .now) (test .if1 .taken)
+    (c .too-short .ensures)
 
 scan-requires : tie.Need-scan-requires
 scan-requires c κs = search needs
@@ -38,13 +42,27 @@ same-length : tie.Need-same-length
 same-length c = search needs
 
 returns-2 : tie.Need-returns-2
-returns-2 c = arm scanned ofScan (c .before .before .before .before .before .before .before .before .before .before .before .before .args .answer .now) (c .before .before .before .before .before .before .before .before .if1 .left) refl (c .before .before .put-four .ensures) (c .before .before .before .before .before .least .given .1) (c .before .before .before .before .before .before .before .scan .ensures)
+returns-2 c =
+    let put = c .before .before in
+    let known = put .before .before .before in
+    let call = known .before .before in
+    let test = call .before in
+    let start = test .before .before .before .before in
+    arm scanned ofScan (start .args .answer .now) (test .if1 .left) refl (put .put-four .ensures)
+    (known .least .given .1) (call .scan .ensures)
 
 same-length-2 : tie.Need-same-length-2
 same-length-2 c = search needs
 
 returns-3 : tie.Need-returns-3
-returns-3 c = arm scanned ofScan (c .before .before .before .before .before .before .before .before .before .before .before .before .before .args .answer .now) (c .before .before .before .before .before .before .before .before .before .if1 .left) (c .number .ensures) (c .before .before .before .put-four2 .ensures) (c .before .before .before .before .before .before .refusal .given .1) (c .before .before .before .before .before .before .before .before .scan .ensures)
+returns-3 c =
+    let put = c .before .before .before in
+    let known = put .before .before .before in
+    let call = known .before .before in
+    let test = call .before in
+    let start = test .before .before .before .before in
+    arm scanned ofScan (start .args .answer .now) (test .if1 .left) (c .number .ensures) (put .put-four2 .ensures)
+    (known .refusal .given .1) (call .scan .ensures)
 
 pub razovinto-scan-spec : {M : Type 1} → statement M
 razovinto-scan-spec =

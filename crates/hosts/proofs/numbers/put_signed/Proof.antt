@@ -1,6 +1,6 @@
 -- `numbers::put_signed` meets its contract.
 -- Assumes nothing.
-use mathlib.Core.Path.{_≡_, ap, sym, _∙_}
+use mathlib.Core.Path.{ap, _∙_}
 use lib.ListN.{set}
 use mir.Syntax.{w64}
 use mir.Val.{SFits}

@@ -14,7 +14,11 @@ too-short-requires : tie.Need-too-short-requires
 too-short-requires c κs = search needs
 
 returns : tie.Need-returns
-returns c = let g = c .before .before .args in short-signed-gives (remainderOf (g .left) (g .right)) (g .result .now) (c .before .if1 .taken) (c .too-short .ensures)
+returns c =
+    let test = c .before in
+    let start = test .before in
+    let g = start .args in
+    short-signed-gives (remainderOf (g .left) (g .right)) (g .result .now) (test .if1 .taken) (c .too-short .ensures)
 
 remainder64-requires : tie.Need-remainder64-requires
 remainder64-requires c κs = search needs
@@ -27,10 +31,14 @@ same-length c = search needs
 
 returns-2 : tie.Need-returns-2
 returns-2 c =
-    let g = c .before .before .before .before .before .args in
+    let put = c .before in
+    let call = put .before in
+    let start = call .before .before .before in
+    let g = start .args in
     let l : SFits w64 (g .left) = search needs in
     let r : SFits w64 (g .right) = search needs in
-    signed-gives (g .result .now) (c .before .before .remainder64 .ensures ∙ ap₂ (remainderOf) (toZ-ofZ l) (toZ-ofZ r)) (c .before .put-signed .ensures)
+    signed-gives (g .result .now) (call .remainder64 .ensures ∙ ap₂ (remainderOf) (toZ-ofZ l) (toZ-ofZ r))
+    (put .put-signed .ensures)
 
 pub razovinto-signed-remainder-spec : {M : Type 1} → statement M
 razovinto-signed-remainder-spec =

@@ -5,7 +5,7 @@ use mathlib.Core.List.{[], _∷_}
 use lib.Seq.{sets}
 use Rattle.checked.specs.Paper.{given}
 use Rattle.recipe.specs.Run.{answerOf}
-use Rattle.hosts.proofs.Runs.{value-code, value-place}
+use Rattle.hosts.proofs.Runs.{headStored, value-code, value-place}
 use Rattle.checked.proofs.Arms.{at}
 use borrow.Author.Needs.{needs}
 use Rattle.hosts.proofs.recipes.put_outcome.Statement.{statement}
@@ -31,22 +31,32 @@ same-length c = search needs
 
 returns : tie.Need-returns
 returns c =
-    let g = c .before .before .before .before .before .before .before .before .args in
-    let a = c .before .before .before .before .before .answer .given in
+    let put = c .before .before in
+    let known = put .before .before .before in
+    let start = known .before .before .before in
+    let g = start .args in
+    let a = known .answer .given in
     let v = a .0 .0 in
     let e =
-    c .before .before .put-value .ensures
+    put .put-value .ensures
     ∙ ap (λ p. sets (g .lent .now) 0 (p ∷ given v .mark ∷ given v .number ∷ g .steps ∷ g .done ∷ [])) (value-place v) in (
       at (λ x. answerOf x .code) (value-code v) (a .1),
-      at (λ x. sets (g .lent .now) 0 (answerOf x .place ∷ answerOf x .mark ∷ answerOf x .number ∷ g .steps ∷ g .done ∷ []))
-          e (a .1),
+      at (λ x. headStored (g .lent .now) (answerOf x) (g .steps) (g .done)) e (a .1),
     )
 
 same-length-2 : tie.Need-same-length-2
 same-length-2 c = search needs
 
 returns-2 : tie.Need-returns-2
-returns-2 c = let g = c .before .before .before .before .before .before .before .before .before .args in let e = c .before .before .before .before .before .before .answer2 .given .1 in (at (λ a. answerOf a .code) (c .number .ensures) e, at (λ a. sets (g .lent .now) 0 (answerOf a .place ∷ answerOf a .mark ∷ answerOf a .number ∷ g .steps ∷ g .done ∷ [])) (c .before .before .before .put-answer .ensures) e)
+returns-2 c =
+    let put = c .before .before .before in
+    let known = put .before .before .before in
+    let start = known .before .before .before in
+    let g = start .args in
+    let e = known .answer2 .given .1 in (
+      at (λ x. answerOf x .code) (c .number .ensures) e,
+      at (λ x. headStored (g .lent .now) (answerOf x) (g .steps) (g .done)) (put .put-answer .ensures) e,
+    )
 
 pub put-outcome-spec : {M : Type 1} → statement M
 put-outcome-spec =

@@ -25,16 +25,19 @@ same-length c = search needs
 
 returns : tie.Need-returns
 returns c =
-    let g = c .before .before .before .before .before .before .before .before .before .before .before .before .before .before .before .before .before .before .before .before .before .args in
+    let start =
+    c .before .before .before .before .before .before .before .before .before .before
+    .before .before .before .before .before .before .before .before .before .before .before in
+    let g = start .args in
     let n : length (g .shown .numbers) ≡ 32 = search needs in
-    let a = c .before .before .before .before .before .before .before .before .before .before .before .before .before .before .before .before .put-outcome in
-    let p = c .before .before .before .before .before .before .before .before .before .before .before .before .put-phase in
+    let l = c .before .before .put-numbers in
     let k = c .before .before .before .before .before .before .before .put-marks in
-    let l = c .before .before .put-numbers in (
-      a .ensures .0,
-      run-stored (paper (g .shown)) (g .lent .now) (a .last .0) (p .last .0) (k .last .0) (l .last .0) n (a .ensures .1)
-          (p .ensures) (k .ensures) (l .ensures),
-    )
+    let p = c .before .before .before .before .before .before .before .before .before .before .before .before .put-phase in
+    let a =
+    c .before .before .before .before .before .before .before .before .before .before .before .before
+    .before .before .before .before .put-outcome in
+    let all = run-stored (paper (g .shown)) (g .lent .now) (a .last .0) (p .last .0) (k .last .0) (l .last .0) n in
+    (a .ensures .0, all (a .ensures .1) (p .ensures) (k .ensures) (l .ensures))
 
 pub put-run-spec : {M : Type 1} → statement M
 put-run-spec =

@@ -24,13 +24,25 @@ same-length : tie.Need-same-length
 same-length c = search needs
 
 returns : tie.Need-returns
-returns c = let g = c .before .before .before .before .before .before .before .before .args in at (λ v. sets (g .lent .now) 0 (0 ∷ given v .mark ∷ given v .number ∷ g .steps ∷ g .done ∷ [])) (c .before .before .put-answer .ensures) (c .before .before .before .before .before .value .given .1)
+returns c =
+    let put = c .before .before in
+    let known = put .before .before .before in
+    let start = known .before .before .before in
+    let g = start .args in
+    at (λ v. sets (g .lent .now) 0 (0 ∷ given v .mark ∷ given v .number ∷ g .steps ∷ g .done ∷ []))
+    (put .put-answer .ensures) (known .value .given .1)
 
 same-length-2 : tie.Need-same-length-2
 same-length-2 c = search needs
 
 returns-2 : tie.Need-returns-2
-returns-2 c = let g = c .before .before .before .before .before .before .before .args in at (λ v. sets (g .lent .now) 0 (0 ∷ given v .mark ∷ given v .number ∷ g .steps ∷ g .done ∷ [])) (c .before .before .put-answer2 .ensures) (c .before .before .before .before .enum-told .given .1)
+returns-2 c =
+    let put = c .before .before in
+    let known = put .before .before in
+    let start = known .before .before .before in
+    let g = start .args in
+    at (λ v. sets (g .lent .now) 0 (0 ∷ given v .mark ∷ given v .number ∷ g .steps ∷ g .done ∷ []))
+    (put .put-answer2 .ensures) (known .enum-told .given .1)
 
 pub put-value-spec : {M : Type 1} → statement M
 put-value-spec =

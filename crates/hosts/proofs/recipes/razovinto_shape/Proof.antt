@@ -13,7 +13,12 @@ too-short-requires : tie.Need-too-short-requires
 too-short-requires c κs = search needs
 
 returns : tie.Need-returns
-returns c = let g = c .before .before .before .before .before .args in short-gives (ofShape (shapeOf (g .width) (g .kinds .now) (g .numbers .now))) (g .answer .now) (c .before .if1 .taken) (c .too-short .ensures)
+returns c =
+    let test = c .before in
+    let start = test .before .before .before .before in
+    let g = start .args in
+    short-gives (ofShape (shapeOf (g .width) (g .kinds .now) (g .numbers .now))) (g .answer .now) (test .if1 .taken)
+    (c .too-short .ensures)
 
 shape-requires : tie.Need-shape-requires
 shape-requires c κs = search needs
@@ -37,13 +42,27 @@ same-length : tie.Need-same-length
 same-length c = search needs
 
 returns-2 : tie.Need-returns-2
-returns-2 c = arm verdict ofShape (c .before .before .before .before .before .before .before .before .before .before .before .before .args .answer .now) (c .before .before .before .before .before .before .before .before .if1 .left) refl (c .before .before .put-two .ensures) (c .before .before .before .before .before .limit .given .1) (c .before .before .before .before .before .before .before .shape .ensures)
+returns-2 c =
+    let put = c .before .before in
+    let known = put .before .before .before in
+    let call = known .before .before in
+    let test = call .before in
+    let start = test .before .before .before .before in
+    arm verdict ofShape (start .args .answer .now) (test .if1 .left) refl (put .put-two .ensures)
+    (known .limit .given .1) (call .shape .ensures)
 
 same-length-2 : tie.Need-same-length-2
 same-length-2 c = search needs
 
 returns-3 : tie.Need-returns-3
-returns-3 c = arm verdict ofShape (c .before .before .before .before .before .before .before .before .before .before .before .before .before .args .answer .now) (c .before .before .before .before .before .before .before .before .before .if1 .left) (c .number .ensures) (c .before .before .before .put-two2 .ensures) (c .before .before .before .before .before .before .refusal .given .1) (c .before .before .before .before .before .before .before .before .shape .ensures)
+returns-3 c =
+    let put = c .before .before .before in
+    let known = put .before .before .before in
+    let call = known .before .before in
+    let test = call .before in
+    let start = test .before .before .before .before in
+    arm verdict ofShape (start .args .answer .now) (test .if1 .left) (c .number .ensures) (put .put-two2 .ensures)
+    (known .refusal .given .1) (call .shape .ensures)
 
 pub razovinto-shape-spec : {M : Type 1} → statement M
 razovinto-shape-spec =

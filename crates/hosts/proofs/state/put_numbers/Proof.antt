@@ -12,7 +12,8 @@ use Rattle.hosts.proofs.state.put_numbers.Statement.{statement}
 use Rattle.hosts.proofs.state.put_numbers.Tie as tie
 
 abbrev Inv-loop : tie.InvT-loop
-Inv-loop lent₀ numbers i₀ lent i = (lent ≡ sets lent₀ 18 (table (λ j. getD numbers j 0) i)) × (length lent ≡ length lent₀) × (i ≤ 32)
+Inv-loop lent₀ numbers i₀ lent i =
+    (lent ≡ sets lent₀ 18 (table (λ j. getD numbers j 0) i)) × (length lent ≡ length lent₀) × (i ≤ 32)
 
 abbrev μ-loop : tie.MeasureT-loop
 μ-loop lent₀ numbers i₀ lent i = 32 - i
@@ -43,9 +44,12 @@ loop-less c = search needs
 
 loop-again : tie.Need-loop-again Inv-loop μ-loop
 loop-again c =
-    let g = c .before .before .before .args in
-    let l = c .before .before .loop in
-    (stored-turn (λ j. getD (g .numbers .now) j 0) 18 (g .lent .now) (l .i) (l .inv .0), simp length-set (l .inv .1), omega arith)
+    let at = c .before .before in
+    let start = at .before in
+    let g = start .args in
+    let l = at .loop in
+    let turn = stored-turn (λ j. getD (g .numbers .now) j 0) 18 (g .lent .now) (l .i) (l .inv .0) in
+    (turn, simp length-set (l .inv .1), omega arith)
 
 same-length : tie.Need-same-length Inv-loop μ-loop
 same-length c = search needs

@@ -30,19 +30,36 @@ same-length : tie.Need-same-length
 same-length c = search needs
 
 returns : tie.Need-returns
-returns c = let g = c .before .before .before .before .before .before .before .args in at (λ p. sets (g .lent .now) 5 (phaseWords (phaseNumbers p))) (c .before .before .put-between .ensures) (c .before .before .before .before .enum-told .given .1)
+returns c =
+    let put = c .before .before in
+    let known = put .before .before in
+    let start = known .before .before .before in
+    let g = start .args in
+    at (λ p. sets (g .lent .now) 5 (phaseWords (phaseNumbers p))) (put .put-between .ensures)
+    (known .enum-told .given .1)
 
 same-length-2 : tie.Need-same-length-2
 same-length-2 c = search needs
 
 returns-2 : tie.Need-returns-2
-returns-2 c = let g = c .before .before .before .before .before .before .before .before .args in at (λ p. sets (g .lent .now) 5 (phaseWords (phaseNumbers p))) (c .before .before .put-power .ensures) (c .before .before .before .before .before .phase .given .1)
+returns-2 c =
+    let put = c .before .before in
+    let known = put .before .before .before in
+    let start = known .before .before .before in
+    let g = start .args in
+    at (λ p. sets (g .lent .now) 5 (phaseWords (phaseNumbers p))) (put .put-power .ensures) (known .phase .given .1)
 
 same-length-3 : tie.Need-same-length-3
 same-length-3 c = search needs
 
 returns-3 : tie.Need-returns-3
-returns-3 c = let g = c .before .before .before .before .before .before .before .before .args in at (λ p. sets (g .lent .now) 5 (phaseWords (phaseNumbers p))) (c .before .before .put-logarithm .ensures) (c .before .before .before .before .before .phase2 .given .1)
+returns-3 c =
+    let put = c .before .before in
+    let known = put .before .before .before in
+    let start = known .before .before .before in
+    let g = start .args in
+    at (λ p. sets (g .lent .now) 5 (phaseWords (phaseNumbers p))) (put .put-logarithm .ensures)
+    (known .phase2 .given .1)
 
 pub put-phase-spec : {M : Type 1} → statement M
 put-phase-spec =

@@ -49,7 +49,15 @@ same-length : tie.Need-same-length
 same-length c = search needs
 
 returns : tie.Need-returns
-returns c = let a = c .before .before .before .mark-of .ensures in let b = c .before .before .number-in .ensures in let d = c .before .mark-of2 .ensures in let e = c .number-in2 .ensures in cc
+returns c =
+    let k1 = c .before in
+    let k2 = k1 .before in
+    let k3 = k2 .before in
+    let a = k3 .mark-of .ensures in
+    let b = k2 .number-in .ensures in
+    let d = k1 .mark-of2 .ensures in
+    let e = c .number-in2 .ensures in
+    cc
 
 pub put-power-spec : {M : Type 1} → statement M
 put-power-spec =
