@@ -232,5 +232,4 @@ void check_blocks(void)
     check_searches();
     check_last_place();
     check_null();
-    printf("limits: blocks\n");
 }

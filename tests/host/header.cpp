@@ -26,7 +26,7 @@ static bool answers()
     struct razovinto_run ran;
     const std::uint8_t kinds[] = {RAZOVINTO_LITERAL, RAZOVINTO_LITERAL, RAZOVINTO_SUM};
     const std::uint64_t items[] = {255, 1, 0};
-    return razovinto_run(8, kinds, 3, items, 3, 100, RAZOVINTO_ANSWER(ran)) == 0 && ran.overflowed == 1 && ran.steps == 3;
+    return razovinto_run(8, kinds, 3, items, 3, 9, RAZOVINTO_ANSWER(ran)) == 0 && ran.overflowed == 1 && ran.steps == 3;
 }
 
 int main()

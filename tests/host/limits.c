@@ -50,7 +50,6 @@ static void check_layout(void)
     for (i = 0; i < sizeof places / sizeof *places; i++)
         if (places[i].given != places[i].wanted)
             fail(places[i].what, "another size or place than the answer's numbers have");
-    printf("limits: layout\n");
 }
 
 static void check_power_fits(void)
@@ -68,7 +67,6 @@ static void check_power_fits(void)
                     (unsigned long long)powers[i].exponent);
             fail("power_fits", "not the number that it must return");
         }
-    printf("limits: power_fits\n");
 }
 
 typedef uint32_t signed_entry(int64_t left, int64_t right, int64_t *result, size_t length);
@@ -111,7 +109,6 @@ static void check_signed(void)
     }
     expect_signed(razovinto_signed_quotient, INT64_MIN, -1, RAZOVINTO_QUOTIENT_TOO_LARGE, 0);
     expect_signed(razovinto_signed_remainder, INT64_MIN, -1, 0, 0);
-    printf("limits: signed numbers\n");
 }
 
 static void expect_scan(const char *what, const uint64_t *numbers, size_t number_count, const uint8_t *marks,
@@ -148,7 +145,6 @@ static void check_fields(void)
     expect(razovinto_scan(NULL, 0, NULL, 0, answer, 4) == RAZOVINTO_FIELD_EMPTY, "a scan of null lists");
     expect(razovinto_scan(NULL, 0, marks, 1, answer, 4) == RAZOVINTO_LENGTHS_DIFFER, "a scan without numbers");
     expect(razovinto_scan(NULL, 0, NULL, 0, NULL, 0) == RAZOVINTO_LIST_TOO_SHORT, "a scan without an answer");
-    printf("limits: fields\n");
 }
 
 int main(void)
@@ -159,5 +155,6 @@ int main(void)
     check_fields();
     check_recipes();
     check_blocks();
+    printf("limits: layout, power_fits, signed numbers, fields, recipes and blocks are as they must be\n");
     return 0;
 }

@@ -244,5 +244,4 @@ void check_recipes(void)
     check_failing_items();
     check_stopped();
     check_null();
-    printf("limits: recipes\n");
 }

@@ -1,11 +1,11 @@
 /* Replays cases for hosts as a host written in C: calls the entry of each and writes its line, in the forms of
  * docs/REPLAY.md.
  *
- *     replay CASES [COUNT]
+ *     replay CASES
  *
- * CASES is a file of tests/second/hosts.py; with COUNT only so many of its cases are taken. Each case is called twice,
- * with lists that have nothing around them and with lists between guard bytes, and every byte that must stay is looked
- * at. Ends with 1 where an entry does what it must not, and with 2 where CASES can't be read.
+ * CASES is a file of tests/second/hosts.py. Each case is called twice, with lists that have nothing around them and
+ * with lists between guard bytes, and every byte that must stay is looked at. Ends with 1 where an entry does what it
+ * must not, and with 2 where CASES can't be read.
  */
 #include "lent.h"
 #include "razovinto.h"
@@ -403,17 +403,15 @@ static void call(size_t guard)
 int main(int count, char **words)
 {
     static char first[LINE];
-    unsigned long most;
-    if (count != 2 && count != 3) {
-        fprintf(stderr, "usage: replay CASES [COUNT]\n");
+    if (count != 2) {
+        fprintf(stderr, "usage: replay CASES\n");
         return 2;
     }
     path = words[1];
-    most = count == 3 ? strtoul(words[2], NULL, 10) : (unsigned long)-1;
     cases = fopen(path, "rb");
     if (cases == NULL)
         stop(2, "the file can't be opened");
-    while (case_number < most && take_case()) {
+    while (take_case()) {
         call(0);
         memcpy(first, line, line_length + 1);
         call(GUARD);

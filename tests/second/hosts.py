@@ -69,7 +69,8 @@ def main():
         lines = rows.lines(some)
     options.file.write_bytes(rows.encode(some))
     options.file.with_name(options.file.name + ".expected").write_text("".join(line + "\n" for line in lines))
-    print(f"hosts: {'recorded' if options.recorded else f'seed {options.seed}'}, {len(some)} cases ({rows.counts(some)})")
+    origin = "recorded" if options.recorded else f"seed {options.seed}"
+    print(f"hosts: {origin}, {len(some)} cases ({rows.counts(some)})")
 
 
 if __name__ == "__main__":
