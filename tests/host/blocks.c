@@ -40,16 +40,21 @@ static void make_block(uint8_t *block, uint32_t number, size_t count)
     check(block);
 }
 
-/* Whether a block is sound, with nothing around it and at each alignment. */
+static void expect_sound_once(const char *what, const uint8_t *block, size_t length, size_t guard, uint32_t refusal)
+{
+    struct lent lent = lend(block, length, guard);
+    if (razovinto_sound(start_of(&lent), length) != refusal || !stayed(&lent, 0))
+        fail(what, "razovinto_sound returns another number, or a byte changed");
+    take_back(&lent);
+}
+
+/* Whether a block is sound, at each alignment, and with nothing around it. */
 static void expect_sound(const char *what, const uint8_t *block, size_t length, uint32_t refusal)
 {
-    size_t guard;
-    for (guard = 0; guard < GUARD + 8; guard += guard == 0 ? GUARD : 1) {
-        struct lent lent = lend(block, length, guard);
-        if (razovinto_sound(start_of(&lent), length) != refusal || !stayed(&lent, 0))
-            fail(what, "sound gives another number, or a byte changed");
-        take_back(&lent);
-    }
+    size_t shift;
+    for (shift = 0; shift < 8; shift++)
+        expect_sound_once(what, block, length, GUARD + shift, refusal);
+    expect_sound_once(what, block, length, 0, refusal);
 }
 
 /* A read into so much room, and whether the block is sound. */

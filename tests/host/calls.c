@@ -79,8 +79,8 @@ void expect_call(const char *what, const struct call *call)
 {
     size_t need = need_of(call->entry), length, shift;
     for (length = 0; length <= need + 2; length++) {
-        expect_once(what, call, length, 0, 0);
         for (shift = 0; shift < (length < need ? 1 : 8); shift++)
             expect_once(what, call, length, GUARD, shift);
+        expect_once(what, call, length, 0, 0);
     }
 }

@@ -1,7 +1,5 @@
 /* Lists as a test lends them to an entry: with guard bytes on both sides, or with nothing around them, so that a tool
- * that watches memory sees a byte too far.
- *
- * Each byte that is lent is known beforehand, so that afterwards every byte can be looked at.
+ * that watches memory sees a byte too far. A test calls with guards first: where a byte too far is written, it is said.
  */
 #ifndef LENT_H
 #define LENT_H

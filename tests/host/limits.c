@@ -75,10 +75,10 @@ typedef uint32_t signed_entry(int64_t left, int64_t right, int64_t *result, size
 static void expect_signed(signed_entry *entry, int64_t left, int64_t right, uint32_t refusal, int64_t number)
 {
     char where[120];
-    size_t length, guard;
+    size_t length, guarded;
     for (length = 0; length <= 3; length++)
-        for (guard = 0; guard <= GUARD; guard += GUARD) {
-            struct lent lent = lend(NULL, length * sizeof number, guard);
+        for (guarded = 2; guarded-- > 0;) {
+            struct lent lent = lend(NULL, length * sizeof number, guarded * GUARD);
             uint32_t wanted = length == 0 ? RAZOVINTO_LIST_TOO_SHORT : refusal;
             snprintf(where, sizeof where, "signed %s of %lld by %lld, with %zu numbers",
                      entry == razovinto_signed_quotient ? "quotient" : "remainder", (long long)left, (long long)right,

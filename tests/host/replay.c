@@ -3,8 +3,8 @@
  *
  *     replay CASES
  *
- * CASES is a file of tests/second/hosts.py. Each case is called twice, with lists that have nothing around them and
- * with lists between guard bytes, and every byte that must stay is looked at. Ends with 1 where an entry does what it
+ * CASES is a file of tests/second/hosts.py. Each case is called twice, with lists between guard bytes and with lists
+ * that have nothing around them, and every byte that must stay is looked at. Ends with 1 where an entry does what it
  * must not, and with 2 where CASES can't be read.
  */
 #include "lent.h"
@@ -412,11 +412,11 @@ int main(int count, char **words)
     if (cases == NULL)
         stop(2, "the file can't be opened");
     while (take_case()) {
-        call(0);
-        memcpy(first, line, line_length + 1);
         call(GUARD);
+        memcpy(first, line, line_length + 1);
+        call(0);
         if (strcmp(first, line) != 0)
-            stop(1, "another line between guard bytes");
+            stop(1, "another line without guard bytes");
         puts(line);
     }
     fclose(cases);
