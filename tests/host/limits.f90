@@ -72,11 +72,31 @@ contains
         call expect(storage_size(scan) == 64 * razovinto_scan_length, 'the range has its numbers')
         call expect(storage_size(read) == 64 * razovinto_read_length, "the block's head has its numbers")
         call expect(storage_size(search) == 64 * razovinto_search_length, 'what is found has its numbers')
+        call expect(razovinto_block_size == 512 .and. razovinto_block_values == 55, 'the sizes of a block')
+        shape = transfer(junk, shape)
+        call expect(all([shape%place, shape%limit] == junk(:2)), "the order of a shape's numbers")
+        scan = transfer(junk, scan)
+        call expect(all([scan%place, scan%least, scan%greatest, scan%width] == junk(:4)), "the order of a range's")
+        read = transfer(junk, read)
+        call expect(all([read%place, read%number, read%count] == junk(:3)), "the order of a head's")
+        search = transfer(junk, search)
+        call expect(all([search%place, search%found, search%position, search%within] == junk(:4)), &
+            'the order of what is found')
+        call check_run_layout()
+    end subroutine
+
+    subroutine check_run_layout()
+        type(razovinto_run_answer) :: run
         run = transfer(junk, run)
-        call expect(run%place == junk(1) .and. run%phase == junk(6), 'the run begins with six numbers')
-        call expect(run%power%first_overflowed == junk(7) .and. run%power%exponent == junk(11), "then the power's")
-        call expect(run%logarithm%base == junk(12) .and. run%logarithm%count == junk(14), "then the logarithm's")
-        call expect(run%on_hand(1) == junk(19) .and. run%on_hand(32) == junk(50), "then the hand's marks and numbers")
+        call expect(all([run%place, run%overflowed, run%number, run%steps, run%done, run%phase] == junk(:6)), &
+            'a run begins with six numbers')
+        call expect(all([run%power%first_overflowed, run%power%first, run%power%second_overflowed, run%power%second, &
+            run%power%exponent] == junk(7:11)), "then the power's")
+        call expect(all([run%logarithm%base, run%logarithm%left, run%logarithm%count] == junk(12:14)), &
+            "then the logarithm's")
+        call expect(all(run%on_hand_overflowed == transfer(junk(15:18), run%on_hand_overflowed)), &
+            "then the hand's marks")
+        call expect(all(run%on_hand == junk(19:50)), "then the hand's numbers")
     end subroutine
 
     subroutine check_power_fits()
