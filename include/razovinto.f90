@@ -1,32 +1,145 @@
-! Razovinto for hosts written in Fortran: six operations on numbers of 64 bits that say when a result does not fit.
+! Razovinto for hosts written in Fortran: checked arithmetic on numbers of 64 bits, recipes, fields and blocks.
 !
-! Each function gives 0, or the number of a refusal. With 0 it has written sixteen bytes to `bytes`:
+! Every function takes any input and asks nothing of it: where something is wrong, it gives a refusal's number, and 0
+! otherwise. A lent list is an array and a count of elements. Nothing is kept from one call to the next, and several
+! threads may call, each with lists of its own. docs/LINKING.md says what the host must keep.
 !
-!     bytes(1:8)     the number, its lowest byte first
-!     bytes(9)       the mark: 0, the number fits 64 bits; 1, it is overflowed, and bytes(1:8) are 0
-!     bytes(10:16)   0
-!
-! Bytes after these stay as they are. With a refusal all bytes stay as they are. `length` is how many bytes `bytes` has;
-! it is looked at first.
+! The names are those of include/razovinto.h, but Fortran takes large letters for small ones, and has one meaning for a
+! name. So the kinds begin with razovinto_kind_; the refusal of an overflowed operand is razovinto_overflowed_operand;
+! and an answer of several numbers has the name of the function that writes it: razovinto_scan writes a
+! type(razovinto_scan_answer), which has razovinto_scan_length numbers.
 !
 ! The numbers go from 0 to 2**64 - 1, and Fortran has no unsigned integers: integer(c_int64_t) carries the 64 binary
 ! digits. Up to 2**63 - 1 the two readings agree; a number n from 2**63 on is seen as n - 2**64, so that -1_c_int64_t is
-! 2**64 - 1. An integer that is below 0 for Fortran is therefore a large number here, and never a negative one.
+! 2**64 - 1. An integer that is below 0 for Fortran is therefore a large number here, and never a negative one; only
+! razovinto_signed_quotient and razovinto_signed_remainder take it as Fortran does. A byte from 128 on is below 0 too.
 module razovinto
     use, intrinsic :: iso_c_binding, only: c_int8_t, c_int32_t, c_int64_t, c_size_t
     implicit none
     private
     public :: razovinto_sum, razovinto_product, razovinto_quotient, razovinto_remainder, razovinto_power, &
-        razovinto_logarithm, razovinto_number, razovinto_overflowed
+        razovinto_logarithm, razovinto_number, razovinto_overflowed, razovinto_power_fits, razovinto_signed_quotient, &
+        razovinto_signed_remainder, razovinto_run, razovinto_shape, razovinto_scan, razovinto_sound, razovinto_read, &
+        razovinto_search, razovinto_refusal_text
 
-    ! How many bytes a function writes.
-    integer(c_size_t), parameter, public :: razovinto_result_size = 16
+    character(len=*), parameter, public :: &
+        razovinto_version = '4.0.0'
+    integer, parameter, public :: &
+        razovinto_version_major = 4
+    integer, parameter, public :: &
+        razovinto_version_minor = 0
+    integer, parameter, public :: &
+        razovinto_version_patch = 0
 
-    ! The refusals: a divisor 0; a logarithm's base 0 or 1; fewer than sixteen bytes for the result.
+    ! The refusals. Not every one has a function here that gives it yet.
     integer(c_int32_t), parameter, public :: razovinto_divisor_zero = 1
     integer(c_int32_t), parameter, public :: razovinto_base_below_two = 2
-    integer(c_int32_t), parameter, public :: razovinto_result_too_short = 19
+    integer(c_int32_t), parameter, public :: razovinto_overflowed_operand = 3
+    integer(c_int32_t), parameter, public :: razovinto_quotient_too_large = 4
+    integer(c_int32_t), parameter, public :: razovinto_unknown_width = 5
+    integer(c_int32_t), parameter, public :: razovinto_lengths_differ = 6
+    integer(c_int32_t), parameter, public :: razovinto_item_count = 7
+    integer(c_int32_t), parameter, public :: razovinto_unknown_kind = 8
+    integer(c_int32_t), parameter, public :: razovinto_literal_too_large = 9
+    integer(c_int32_t), parameter, public :: razovinto_too_few_on_hand = 10
+    integer(c_int32_t), parameter, public :: razovinto_hand_full = 11
+    integer(c_int32_t), parameter, public :: razovinto_several_left = 12
+    integer(c_int32_t), parameter, public :: razovinto_none_left = 13
+    integer(c_int32_t), parameter, public :: razovinto_field_empty = 14
+    integer(c_int32_t), parameter, public :: razovinto_bad_mark = 15
+    integer(c_int32_t), parameter, public :: razovinto_block_length = 16
+    integer(c_int32_t), parameter, public :: razovinto_wrong_check = 17
+    integer(c_int32_t), parameter, public :: razovinto_bad_layout = 18
+    integer(c_int32_t), parameter, public :: razovinto_list_too_short = 19
+    integer(c_int32_t), parameter, public :: razovinto_allowance_spent = 20
+    integer(c_int32_t), parameter, public :: razovinto_block_number_too_large = 21
+    integer(c_int32_t), parameter, public :: razovinto_unusable_reading = 22
+    integer(c_int32_t), parameter, public :: razovinto_not_whole = 23
+    integer(c_int32_t), parameter, public :: razovinto_other_block_number = 24
 
+    ! The name under which the six operations gave 19 before there were other lists.
+    integer(c_int32_t), parameter, public :: razovinto_result_too_short = razovinto_list_too_short
+
+    ! How many bytes each of the six operations writes.
+    integer(c_size_t), parameter, public :: razovinto_result_size = 16
+
+    ! The kinds of a recipe's items.
+    integer(c_int8_t), parameter, public :: razovinto_kind_literal = 0
+    integer(c_int8_t), parameter, public :: razovinto_kind_sum = 1
+    integer(c_int8_t), parameter, public :: razovinto_kind_product = 2
+    integer(c_int8_t), parameter, public :: razovinto_kind_quotient = 3
+    integer(c_int8_t), parameter, public :: razovinto_kind_remainder = 4
+    integer(c_int8_t), parameter, public :: razovinto_kind_power = 5
+    integer(c_int8_t), parameter, public :: razovinto_kind_logarithm = 6
+
+    ! The phases of a run.
+    integer(c_int64_t), parameter, public :: razovinto_between_items = 0
+    integer(c_int64_t), parameter, public :: razovinto_within_power = 1
+    integer(c_int64_t), parameter, public :: razovinto_within_logarithm = 2
+
+    ! How many values may be on hand; a block's bytes, and how many values it may have.
+    integer, parameter, public :: razovinto_places = 32
+    integer(c_size_t), parameter, public :: razovinto_block_size = 512
+    integer(c_size_t), parameter, public :: razovinto_block_values = 55
+
+    ! How many numbers each answer has.
+    integer(c_size_t), parameter, public :: razovinto_shape_length = 2
+    integer(c_size_t), parameter, public :: razovinto_run_length = 50
+    integer(c_size_t), parameter, public :: razovinto_scan_length = 4
+    integer(c_size_t), parameter, public :: razovinto_read_length = 3
+    integer(c_size_t), parameter, public :: razovinto_search_length = 4
+
+    ! Whether a recipe is well formed: the refusal's place, which is the item's index from 0, or how many items there
+    ! are for 12 and 13; and the largest number of the width.
+    type, bind(c), public :: razovinto_shape_answer
+        integer(c_int64_t) :: place, limit
+    end type
+
+    ! The numbers that a run holds within a power, and within a logarithm; 0 otherwise.
+    type, bind(c), public :: razovinto_power_numbers
+        integer(c_int64_t) :: first_overflowed, first, second_overflowed, second, exponent
+    end type
+    type, bind(c), public :: razovinto_logarithm_numbers
+        integer(c_int64_t) :: base, left, count
+    end type
+
+    ! What a run shows. With 0 `number` is the recipe's value, or `overflowed` is 1. With razovinto_allowance_spent it
+    ! is the state in which the run was stopped; with everything else `done`, `phase`, the phase's numbers and all
+    ! places are 0. `place` is the refusal's, as of a shape, and `done` for 20; `steps` are those taken, `done` counts
+    ! the items wholly done. The hand stands bottom first, its marks and its numbers; an unused place is 0 in both.
+    type, bind(c), public :: razovinto_run_answer
+        integer(c_int64_t) :: place, overflowed, number, steps, done, phase
+        type(razovinto_power_numbers) :: power
+        type(razovinto_logarithm_numbers) :: logarithm
+        integer(c_int8_t) :: on_hand_overflowed(razovinto_places)
+        integer(c_int64_t) :: on_hand(razovinto_places)
+    end type
+
+    ! A field's range: the refusal's place, which is the element's index from 0 for 15 and 3; and how many bits pack a
+    ! number of the range.
+    type, bind(c), public :: razovinto_scan_answer
+        integer(c_int64_t) :: place, least, greatest, width
+    end type
+
+    ! What a block's head says; the refusal's place is 0.
+    type, bind(c), public :: razovinto_read_answer
+        integer(c_int64_t) :: place, number, count
+    end type
+
+    ! The first overflowed value of a run of blocks: the refusal's place, which is the bad block's position from 0;
+    ! whether there is one, 1 or 0; its block's position, and its place within the block, both from 0.
+    type, bind(c), public :: razovinto_search_answer
+        integer(c_int64_t) :: place, found, position, within
+    end type
+
+    ! Single operations. With 0 each of the first six has written sixteen bytes to `bytes`:
+    !
+    !     bytes(1:8)     the number, its lowest byte first
+    !     bytes(9)       the mark: 0, the number fits 64 bits; 1, it is overflowed, and bytes(1:8) are 0
+    !     bytes(10:16)   0
+    !
+    ! Bytes after these stay as they are. With a refusal all bytes stay as they are. `length` is how many bytes `bytes`
+    ! has; it is looked at first.
     interface
         ! left + right; overflowed from 2**64 on.
         function razovinto_sum(left, right, bytes, length) bind(c, name='razovinto_sum') result(refusal)
@@ -81,6 +194,121 @@ module razovinto
             integer(c_size_t), value :: length
             integer(c_int32_t) :: refusal
         end function
+
+        ! 1 where base ** exponent is at most 2**64 - 1, 0 where it is above; it is not worked out.
+        function razovinto_power_fits(base, exponent) bind(c, name='razovinto_power_fits') result(fits)
+            import :: c_int32_t, c_int64_t
+            integer(c_int64_t), value :: base, exponent
+            integer(c_int32_t) :: fits
+        end function
+
+        ! The truncating quotient of signed numbers, written to number(1); refused with razovinto_list_too_short where
+        ! `length` is 0, then with razovinto_divisor_zero, then, for the smallest number by -1, with
+        ! razovinto_quotient_too_large. With a refusal nothing is written, and nothing ever is past number(1).
+        function razovinto_signed_quotient(left, right, number, length) bind(c, name='razovinto_signed_quotient') &
+            result(refusal)
+            import :: c_int32_t, c_int64_t, c_size_t
+            integer(c_int64_t), value :: left, right
+            integer(c_int64_t), intent(inout) :: number(*)
+            integer(c_size_t), value :: length
+            integer(c_int32_t) :: refusal
+        end function
+
+        ! What it leaves: left - right * quotient, and 0 for the smallest number by -1; refused with
+        ! razovinto_list_too_short, then with razovinto_divisor_zero.
+        function razovinto_signed_remainder(left, right, number, length) bind(c, name='razovinto_signed_remainder') &
+            result(refusal)
+            import :: c_int32_t, c_int64_t, c_size_t
+            integer(c_int64_t), value :: left, right
+            integer(c_int64_t), intent(inout) :: number(*)
+            integer(c_size_t), value :: length
+            integer(c_int32_t) :: refusal
+        end function
+    end interface
+
+    ! An answer of several numbers goes to a type of its own, of which `length` numbers are lent: all of them with the
+    ! parameter that ends in _length. A smaller length is refused with razovinto_list_too_short before anything else,
+    ! and nothing is written then. Otherwise the whole answer is written, with a refusal too: its place, and 0 for
+    ! everything else.
+    interface
+        ! Runs a recipe at a width of 8, 16, 32 or 64 bits, for at most `allowance` steps. A recipe is two lists in
+        ! postfix order: a literal is kind 0 with its number, an operation has the number 0 and takes the two values on
+        ! hand that come last. Refused with 5 to 13 for its shape, in this order: razovinto_unknown_width,
+        ! razovinto_lengths_differ, razovinto_item_count; item by item razovinto_unknown_kind, then
+        ! razovinto_literal_too_large and razovinto_hand_full for a literal, or razovinto_too_few_on_hand for an
+        ! operation; razovinto_several_left, razovinto_none_left. Then it runs, and the first item that fails is the
+        ! answer: razovinto_overflowed_operand, razovinto_divisor_zero, razovinto_base_below_two; or
+        ! razovinto_allowance_spent.
+        function razovinto_run(width, kinds, kind_count, numbers, number_count, allowance, answer, length) &
+            bind(c, name='razovinto_run') result(refusal)
+            import :: c_int8_t, c_int32_t, c_int64_t, c_size_t, razovinto_run_answer
+            integer(c_int64_t), value :: width, allowance
+            integer(c_int8_t), intent(in) :: kinds(*)
+            integer(c_int64_t), intent(in) :: numbers(*)
+            integer(c_size_t), value :: kind_count, number_count, length
+            type(razovinto_run_answer), intent(inout) :: answer
+            integer(c_int32_t) :: refusal
+        end function
+
+        ! Whether a recipe is well formed at a width; refused as above for its shape.
+        function razovinto_shape(width, kinds, kind_count, numbers, number_count, answer, length) &
+            bind(c, name='razovinto_shape') result(refusal)
+            import :: c_int8_t, c_int32_t, c_int64_t, c_size_t, razovinto_shape_answer
+            integer(c_int64_t), value :: width
+            integer(c_int8_t), intent(in) :: kinds(*)
+            integer(c_int64_t), intent(in) :: numbers(*)
+            integer(c_size_t), value :: kind_count, number_count, length
+            type(razovinto_shape_answer), intent(inout) :: answer
+            integer(c_int32_t) :: refusal
+        end function
+
+        ! The range of a field that has no overflowed place. A field is two lists, numbers and marks: a mark is 0 where
+        ! the number fits, and 1 where it is overflowed, and the number is 0 then. Refused with
+        ! razovinto_lengths_differ, razovinto_field_empty; then at the earliest place that has a fault with
+        ! razovinto_bad_mark or razovinto_overflowed_operand.
+        function razovinto_scan(numbers, number_count, marks, mark_count, answer, length) &
+            bind(c, name='razovinto_scan') result(refusal)
+            import :: c_int8_t, c_int32_t, c_int64_t, c_size_t, razovinto_scan_answer
+            integer(c_int64_t), intent(in) :: numbers(*)
+            integer(c_int8_t), intent(in) :: marks(*)
+            integer(c_size_t), value :: number_count, mark_count, length
+            type(razovinto_scan_answer), intent(inout) :: answer
+            integer(c_int32_t) :: refusal
+        end function
+
+        ! Whether a block of `length` bytes is sound: 0, or razovinto_block_length, razovinto_wrong_check,
+        ! razovinto_bad_layout.
+        function razovinto_sound(bytes, length) bind(c, name='razovinto_sound') result(refusal)
+            import :: c_int8_t, c_int32_t, c_size_t
+            integer(c_int8_t), intent(in) :: bytes(*)
+            integer(c_size_t), value :: length
+            integer(c_int32_t) :: refusal
+        end function
+
+        ! The block's values to numbers(1:count) and marks(1:count); nothing past them is written. Refused as
+        ! razovinto_sound, then with razovinto_list_too_short where one of the two lists has fewer than count elements;
+        ! the two lists stay as they are then.
+        function razovinto_read(bytes, byte_count, numbers, number_count, marks, mark_count, answer, length) &
+            bind(c, name='razovinto_read') result(refusal)
+            import :: c_int8_t, c_int32_t, c_int64_t, c_size_t, razovinto_read_answer
+            integer(c_int8_t), intent(in) :: bytes(*)
+            integer(c_int64_t), intent(inout) :: numbers(*)
+            integer(c_int8_t), intent(inout) :: marks(*)
+            integer(c_size_t), value :: byte_count, number_count, mark_count, length
+            type(razovinto_read_answer), intent(inout) :: answer
+            integer(c_int32_t) :: refusal
+        end function
+
+        ! The first overflowed value of a run of blocks, each block being looked at whole before its marks count.
+        ! Refused with razovinto_block_length, at place 0, where the run's length is no multiple of 512; or with the
+        ! first bad block's refusal where no overflowed value comes before it.
+        function razovinto_search(bytes, byte_count, answer, length) bind(c, name='razovinto_search') result(refusal)
+            import :: c_int8_t, c_int32_t, c_size_t, razovinto_search_answer
+            integer(c_int8_t), intent(in) :: bytes(*)
+            integer(c_size_t), value :: byte_count, length
+            type(razovinto_search_answer), intent(inout) :: answer
+            integer(c_int32_t) :: refusal
+        end function
     end interface
 
 contains
@@ -101,6 +329,67 @@ contains
         integer(c_int8_t), intent(in) :: bytes(*)
         logical :: overflowed
         overflowed = bytes(9) /= 0
+    end function
+
+    ! A refusal in words, as `razo` prints them; of 0 that nothing was refused, and of a number that is no refusal that
+    ! it is none.
+    pure function razovinto_refusal_text(refusal) result(text)
+        integer(c_int32_t), intent(in) :: refusal
+        character(len=:), allocatable :: text
+        select case (refusal)
+        case (0)
+            text = 'not refused'
+        case (razovinto_divisor_zero)
+            text = 'divisor 0'
+        case (razovinto_base_below_two)
+            text = 'base below 2'
+        case (razovinto_overflowed_operand)
+            text = 'overflowed operand'
+        case (razovinto_quotient_too_large)
+            text = 'signed quotient that doesn''t fit'
+        case (razovinto_unknown_width)
+            text = 'width not 8, 16, 32 or 64'
+        case (razovinto_lengths_differ)
+            text = 'lists that differ in length'
+        case (razovinto_item_count)
+            text = 'recipe of 0 items or above 256'
+        case (razovinto_unknown_kind)
+            text = 'unknown kind, or operation with a number not 0'
+        case (razovinto_literal_too_large)
+            text = 'literal too large for the width'
+        case (razovinto_too_few_on_hand)
+            text = 'operation with fewer than two values on hand'
+        case (razovinto_hand_full)
+            text = 'literal that would be the 33rd on hand'
+        case (razovinto_several_left)
+            text = 'recipe ends with more than one value'
+        case (razovinto_none_left)
+            text = 'recipe ends with no value'
+        case (razovinto_field_empty)
+            text = 'field without a value'
+        case (razovinto_bad_mark)
+            text = 'mark not 0 or 1, or overflowed with a number not 0'
+        case (razovinto_block_length)
+            text = 'the block is not 512 bytes'
+        case (razovinto_wrong_check)
+            text = 'the check is wrong'
+        case (razovinto_bad_layout)
+            text = 'the edition, the count, a mark or a byte that must be zero is wrong'
+        case (razovinto_list_too_short)
+            text = 'list too short for what would be written'
+        case (razovinto_allowance_spent)
+            text = 'allowance spent'
+        case (razovinto_block_number_too_large)
+            text = 'block number above 2^32 - 1'
+        case (razovinto_unusable_reading)
+            text = 'reading is NaN or infinite'
+        case (razovinto_not_whole)
+            text = 'reading is not a whole number from 0 to 16,777,215'
+        case (razovinto_other_block_number)
+            text = 'block has another number'
+        case default
+            text = 'no refusal has this number'
+        end select
     end function
 
 end module

@@ -3,13 +3,35 @@
 #include "razovinto.h"
 
 #include <cstdint>
+#include <cstring>
 
-int main()
+static bool six()
 {
     std::uint8_t result[RAZOVINTO_RESULT_SIZE];
     if (razovinto_product(UINT64_MAX, 2, result, sizeof result) != 0 || !razovinto_overflowed(result))
-        return 1;
+        return false;
     if (razovinto_quotient(7, 0, result, sizeof result) != RAZOVINTO_DIVISOR_ZERO)
+        return false;
+    return razovinto_power(3, 4, result, sizeof result) == 0 && razovinto_number(result) == 81;
+}
+
+static bool answers()
+{
+    const std::uint64_t numbers[] = {5, 2, 9};
+    const std::uint8_t marks[] = {0, 0, 0};
+    razovinto_range range;
+    if (razovinto_scan(numbers, 3, marks, 3, RAZOVINTO_ANSWER(range)) != 0 || range.least != 2 || range.greatest != 9)
+        return false;
+    // A function has the struct's name too, so that C++ wants the word before it.
+    struct razovinto_run ran;
+    const std::uint8_t kinds[] = {RAZOVINTO_LITERAL, RAZOVINTO_LITERAL, RAZOVINTO_SUM};
+    const std::uint64_t items[] = {255, 1, 0};
+    return razovinto_run(8, kinds, 3, items, 3, 9, RAZOVINTO_ANSWER(ran)) == 0 && ran.overflowed == 1 && ran.steps == 3;
+}
+
+int main()
+{
+    if (std::strcmp(razovinto_refusal_text(RAZOVINTO_OVERFLOWED), "overflowed operand") != 0)
         return 1;
-    return razovinto_power(3, 4, result, sizeof result) == 0 && razovinto_number(result) == 81 ? 0 : 1;
+    return six() && answers() ? 0 : 1;
 }

@@ -1,4 +1,4 @@
-/* The C entries as a host written in C sees them.
+/* The six operations as a host written in C sees them.
  *
  *     host PAIRS
  *
@@ -53,8 +53,8 @@ static uint8_t written(struct expected expected, size_t place)
     return place == 8 ? expected.mark : 0;
 }
 
-/* Calls an entry with `length` bytes that begin `shift` bytes off an aligned place, between guard bytes, and looks at the
- * returned number and at every byte. */
+/* Calls an entry with `length` bytes that begin `shift` bytes off an aligned place, between guard bytes, and looks at
+ * the returned number and at every byte. */
 static void check(int kind, uint64_t left, uint64_t right, size_t length, size_t shift, struct expected expected)
 {
     uint8_t bytes[GUARD + 8 + LONGEST + GUARD];
@@ -86,8 +86,8 @@ static void check_lengths(int kind, uint64_t left, uint64_t right, struct expect
             check(kind, left, right, length, shift, expected);
 }
 
-/* Too few bytes are refused before a divisor 0 or a base below 2, and none of them changes. Each length is also tried with
- * just so many bytes from the heap, so that a tool that watches memory sees a read or write past them. */
+/* Too few bytes are refused before a divisor 0 or a base below 2, and none of them changes. Each length is also tried
+ * with just so many bytes from the heap, so that a tool that watches memory sees a read or write past them. */
 static void check_short(int kind, uint64_t left, uint64_t right)
 {
     const struct expected too_short = {RAZOVINTO_RESULT_TOO_SHORT, 0, 0};

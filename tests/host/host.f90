@@ -1,4 +1,4 @@
-! The C entries as a host written in Fortran sees them.
+! The six operations as a host written in Fortran sees them.
 !
 !     host PAIRS
 !
@@ -54,8 +54,8 @@ contains
         integer, intent(in) :: kind
         integer(c_int64_t), intent(in) :: left, right
         integer(c_size_t), intent(in) :: length
-        print '(a, a, a, z16.16, a, z16.16, a, i0, a, a)', 'host: ', trim(names(kind)), ' of hexadecimal ', left, ' and ', &
-            right, ', ', length, ' bytes lent: ', what
+        print '(a, a, a, z16.16, a, z16.16, a, i0, a, a)', 'host: ', trim(names(kind)), ' of hexadecimal ', left, &
+            ' and ', right, ', ', length, ' bytes lent: ', what
         stop 1
     end subroutine
 

@@ -1,0 +1,423 @@
+! The entries beyond the six at their limits, as a host written in Fortran calls them. Ends with 1 at the first thing
+! that is not as it must be. The C test, limits.c, has more of the same.
+program limits
+    use, intrinsic :: iso_c_binding, only: c_int8_t, c_int32_t, c_int64_t, c_size_t
+    use, intrinsic :: iso_fortran_env, only: error_unit
+    use razovinto
+    implicit none
+
+    ! The largest number, 2**64 - 1, and the smallest signed one, which has the digits of 2**63.
+    integer(c_int64_t), parameter :: most = -1_c_int64_t, smallest = ishft(1_c_int64_t, 63)
+    ! What an answer and its two neighbours have before a call.
+    integer :: i
+    integer(c_int64_t), parameter :: junk(150) = [(1000003_c_int64_t * i, i = 1, 150)]
+    ! As many literals as no recipe may have, and their numbers.
+    integer(c_int8_t), parameter :: literals(257) = razovinto_kind_literal
+    integer(c_int64_t), parameter :: ones(257) = 1
+
+    call check_layout()
+    call check_power_fits()
+    call check_signed()
+    call check_scan()
+    call check_shape()
+    call check_run()
+    call check_stopped()
+    call check_blocks()
+    call check_search()
+    print '(a)', 'limits: layout, power_fits, signed numbers, fields, recipes and blocks are as they must be'
+
+contains
+
+    subroutine expect(holds, what)
+        logical, intent(in) :: holds
+        character(len=*), intent(in) :: what
+        if (holds) return
+        write (error_unit, '(a, a)') 'limits: not so: ', what
+        stop 1
+    end subroutine
+
+    ! Looks at three answers as numbers, of which the middle one was lent: at its numbers, which are `expected` where it
+    ! was written, and at its neighbours, which must have stayed.
+    subroutine expect_answer(answers, expected, length, what)
+        integer(c_int64_t), intent(in) :: answers(:), expected(:)
+        integer(c_size_t), intent(in) :: length
+        character(len=*), intent(in) :: what
+        integer :: need
+        need = size(answers) / 3
+        call expect(all(answers(:need) == junk(:need)), what // ': nothing before the answer changes')
+        call expect(all(answers(2 * need + 1:) == junk(2 * need + 1:3 * need)), what // ': nothing after it changes')
+        if (length < need) then
+            call expect(all(answers == junk(:3 * need)), what // ': too short a list stays as it is')
+        else
+            call expect(all(answers(need + 1:2 * need) == expected), what // ': the answer')
+        end if
+    end subroutine
+
+    ! What must be returned with so many numbers for an answer that needs `need`.
+    pure function wanted(refusal, length, need) result(code)
+        integer(c_int32_t), intent(in) :: refusal
+        integer(c_size_t), intent(in) :: length, need
+        integer(c_int32_t) :: code
+        code = merge(razovinto_list_too_short, refusal, length < need)
+    end function
+
+    subroutine check_layout()
+        type(razovinto_shape_answer) :: shape
+        type(razovinto_run_answer) :: run
+        type(razovinto_scan_answer) :: scan
+        type(razovinto_read_answer) :: read
+        type(razovinto_search_answer) :: search
+        call expect(storage_size(shape) == 64 * razovinto_shape_length, 'the shape has its numbers')
+        call expect(storage_size(run) == 64 * razovinto_run_length, 'the run has its numbers')
+        call expect(storage_size(scan) == 64 * razovinto_scan_length, 'the range has its numbers')
+        call expect(storage_size(read) == 64 * razovinto_read_length, "the block's head has its numbers")
+        call expect(storage_size(search) == 64 * razovinto_search_length, 'what is found has its numbers')
+        call expect(razovinto_block_size == 512 .and. razovinto_block_values == 55, 'the sizes of a block')
+        shape = transfer(junk, shape)
+        call expect(all([shape%place, shape%limit] == junk(:2)), "the order of a shape's numbers")
+        scan = transfer(junk, scan)
+        call expect(all([scan%place, scan%least, scan%greatest, scan%width] == junk(:4)), "the order of a range's")
+        read = transfer(junk, read)
+        call expect(all([read%place, read%number, read%count] == junk(:3)), "the order of a head's")
+        search = transfer(junk, search)
+        call expect(all([search%place, search%found, search%position, search%within] == junk(:4)), &
+            'the order of what is found')
+        call check_run_layout()
+    end subroutine
+
+    subroutine check_run_layout()
+        type(razovinto_run_answer) :: run
+        run = transfer(junk, run)
+        call expect(all([run%place, run%overflowed, run%number, run%steps, run%done, run%phase] == junk(:6)), &
+            'a run begins with six numbers')
+        call expect(all([run%power%first_overflowed, run%power%first, run%power%second_overflowed, run%power%second, &
+            run%power%exponent] == junk(7:11)), "then the power's")
+        call expect(all([run%logarithm%base, run%logarithm%left, run%logarithm%count] == junk(12:14)), &
+            "then the logarithm's")
+        call expect(all(run%on_hand_overflowed == transfer(junk(15:18), run%on_hand_overflowed)), &
+            "then the hand's marks")
+        call expect(all(run%on_hand == junk(19:50)), "then the hand's numbers")
+    end subroutine
+
+    subroutine check_power_fits()
+        call fits(0_c_int64_t, 0_c_int64_t, 1)
+        call fits(most, 0_c_int64_t, 1)
+        call fits(most, 1_c_int64_t, 1)
+        call fits(most, 2_c_int64_t, 0)
+        call fits(4294967295_c_int64_t, 2_c_int64_t, 1)
+        call fits(4294967296_c_int64_t, 2_c_int64_t, 0)
+        call fits(3_c_int64_t, 40_c_int64_t, 1)
+        call fits(3_c_int64_t, 41_c_int64_t, 0)
+        call fits(2_c_int64_t, 63_c_int64_t, 1)
+        call fits(2_c_int64_t, 64_c_int64_t, 0)
+        call fits(2_c_int64_t, most, 0)
+        call fits(1_c_int64_t, most, 1)
+    end subroutine
+
+    subroutine fits(base, exponent, yes)
+        integer(c_int64_t), intent(in) :: base, exponent
+        integer, intent(in) :: yes
+        call expect(razovinto_power_fits(base, exponent) == yes, 'whether a power fits')
+    end subroutine
+
+    subroutine check_signed()
+        call divide(-7_c_int64_t, 2_c_int64_t, 0, -3_c_int64_t, 0, -1_c_int64_t)
+        call divide(7_c_int64_t, -2_c_int64_t, 0, -3_c_int64_t, 0, 1_c_int64_t)
+        call divide(-7_c_int64_t, -2_c_int64_t, 0, 3_c_int64_t, 0, -1_c_int64_t)
+        call divide(smallest, 1_c_int64_t, 0, smallest, 0, 0_c_int64_t)
+        call divide(smallest, -1_c_int64_t, razovinto_quotient_too_large, 0_c_int64_t, 0, 0_c_int64_t)
+        call divide(smallest, 0_c_int64_t, razovinto_divisor_zero, 0_c_int64_t, razovinto_divisor_zero, 0_c_int64_t)
+    end subroutine
+
+    ! Both entries, with each length of the list from 0 to 2.
+    subroutine divide(left, right, quotient_refusal, quotient, remainder_refusal, remainder)
+        integer(c_int64_t), intent(in) :: left, right, quotient, remainder
+        integer(c_int32_t), intent(in) :: quotient_refusal, remainder_refusal
+        integer(c_size_t), parameter :: need = 1
+        integer(c_int64_t) :: numbers(3)
+        integer(c_int32_t) :: code
+        integer(c_size_t) :: length
+        do length = 0, 2
+            numbers = junk(:3)
+            code = razovinto_signed_quotient(left, right, numbers(2:), length)
+            call expect(code == wanted(quotient_refusal, length, need), 'what a signed quotient returns')
+            call expect_answer(numbers, [merge(quotient, junk(2), code == 0)], length, 'a signed quotient')
+            numbers = junk(:3)
+            code = razovinto_signed_remainder(left, right, numbers(2:), length)
+            call expect(code == wanted(remainder_refusal, length, need), 'what a signed remainder returns')
+            call expect_answer(numbers, [merge(remainder, junk(2), code == 0)], length, 'a signed remainder')
+        end do
+    end subroutine
+
+    subroutine check_scan()
+        integer(c_int64_t), parameter :: numbers(4) = [9_c_int64_t, most, 0_c_int64_t, 256_c_int64_t]
+        integer(c_int8_t), parameter :: marks(4) = 0
+        call scan(numbers, marks, 0, [0_c_int64_t, 0_c_int64_t, most, 64_c_int64_t])
+        call scan(numbers(3:), marks(3:), 0, [0_c_int64_t, 0_c_int64_t, 256_c_int64_t, 9_c_int64_t])
+        call scan(numbers(:0), marks(:0), razovinto_field_empty, [0_c_int64_t, 0_c_int64_t, 0_c_int64_t, 0_c_int64_t])
+        call scan(numbers, marks(:3), razovinto_lengths_differ, [0_c_int64_t, 0_c_int64_t, 0_c_int64_t, 0_c_int64_t])
+        call scan(numbers, [0_c_int8_t, 0_c_int8_t, 1_c_int8_t, 2_c_int8_t], razovinto_overflowed_operand, &
+            [2_c_int64_t, 0_c_int64_t, 0_c_int64_t, 0_c_int64_t])
+        call scan(numbers, [0_c_int8_t, 0_c_int8_t, 0_c_int8_t, -1_c_int8_t], razovinto_bad_mark, &
+            [3_c_int64_t, 0_c_int64_t, 0_c_int64_t, 0_c_int64_t])
+    end subroutine
+
+    subroutine scan(numbers, marks, refusal, expected)
+        integer(c_int64_t), intent(in) :: numbers(:), expected(:)
+        integer(c_int8_t), intent(in) :: marks(:)
+        integer(c_int32_t), intent(in) :: refusal
+        type(razovinto_scan_answer) :: range(3)
+        integer(c_int32_t) :: code
+        integer(c_size_t) :: length
+        do length = 0, razovinto_scan_length + 1
+            range = transfer(junk, range, 3)
+            code = razovinto_scan(numbers, size(numbers, kind=c_size_t), marks, size(marks, kind=c_size_t), range(2), &
+                length)
+            call expect(code == wanted(refusal, length, razovinto_scan_length), 'what a scan returns')
+            call expect_answer(transfer(range, junk), expected, length, 'a scan')
+        end do
+    end subroutine
+
+    subroutine check_shape()
+        call shape(8_c_int64_t, literals(:1), ones(:1), 0, 0, 255)
+        call shape(7_c_int64_t, literals(:1), ones(:1), razovinto_unknown_width, 0, 0)
+        call shape(264_c_int64_t, literals(:1), ones(:1), razovinto_unknown_width, 0, 0)
+        call shape(most, literals(:1), ones(:1), razovinto_unknown_width, 0, 0)
+        call shape(8_c_int64_t, literals(:2), ones(:1), razovinto_lengths_differ, 0, 0)
+        call shape(8_c_int64_t, literals(:0), ones(:0), razovinto_item_count, 0, 0)
+        call shape(8_c_int64_t, literals, ones, razovinto_item_count, 0, 0)
+        call shape(8_c_int64_t, [-1_c_int8_t], ones(:1), razovinto_unknown_kind, 0, 0)
+        call shape(8_c_int64_t, literals(:2), 256 * ones(:2), razovinto_literal_too_large, 0, 0)
+        call shape(8_c_int64_t, [razovinto_kind_literal, razovinto_kind_sum], [1_c_int64_t, 0_c_int64_t], &
+            razovinto_too_few_on_hand, 1, 0)
+        call shape(8_c_int64_t, literals(:33), ones(:33), razovinto_hand_full, 32, 0)
+        call shape(8_c_int64_t, literals(:32), ones(:32), razovinto_several_left, 32, 0)
+    end subroutine
+
+    ! The shape alone, and the run, which must be refused in the same way.
+    subroutine shape(width, kinds, numbers, refusal, place, limit)
+        integer(c_int64_t), intent(in) :: width, numbers(:)
+        integer(c_int8_t), intent(in) :: kinds(:)
+        integer(c_int32_t), intent(in) :: refusal
+        integer, intent(in) :: place, limit
+        type(razovinto_shape_answer) :: answers(3)
+        integer(c_int32_t) :: code
+        integer(c_size_t) :: length
+        do length = 0, razovinto_shape_length + 1
+            answers = transfer(junk, answers, 3)
+            code = razovinto_shape(width, kinds, size(kinds, kind=c_size_t), numbers, size(numbers, kind=c_size_t), &
+                answers(2), length)
+            call expect(code == wanted(refusal, length, razovinto_shape_length), 'what a shape returns')
+            call expect_answer(transfer(answers, junk), int([place, limit], c_int64_t), length, 'a shape')
+        end do
+        if (refusal /= 0) call run(width, kinds, numbers, most, refusal, stopped(place, 0, 0))
+    end subroutine
+
+    subroutine run(width, kinds, numbers, allowance, refusal, expected)
+        integer(c_int64_t), intent(in) :: width, numbers(:), allowance
+        integer(c_int8_t), intent(in) :: kinds(:)
+        integer(c_int32_t), intent(in) :: refusal
+        type(razovinto_run_answer), intent(in) :: expected
+        type(razovinto_run_answer) :: answers(3)
+        integer(c_int32_t) :: code
+        integer(c_size_t) :: length
+        do length = 0, razovinto_run_length + 1
+            answers = transfer(junk, answers, 3)
+            code = razovinto_run(width, kinds, size(kinds, kind=c_size_t), numbers, size(numbers, kind=c_size_t), &
+                allowance, answers(2), length)
+            call expect(code == wanted(refusal, length, razovinto_run_length), 'what a run returns')
+            call expect_answer(transfer(answers, junk), transfer(expected, junk), length, 'a run')
+        end do
+    end subroutine
+
+    ! A run's answer that is 0 but for these.
+    pure function stopped(place, steps, done) result(answer)
+        integer, intent(in) :: place, steps, done
+        type(razovinto_run_answer) :: answer
+        answer = transfer([(0_c_int64_t, i = 1, 50)], answer)
+        answer%place = place
+        answer%steps = steps
+        answer%done = done
+    end function
+
+    subroutine check_run()
+        integer(c_int8_t), parameter :: sum(3) = [razovinto_kind_literal, razovinto_kind_literal, razovinto_kind_sum]
+        integer(c_int8_t), parameter :: quotient(3) = &
+            [razovinto_kind_literal, razovinto_kind_literal, razovinto_kind_quotient]
+        type(razovinto_run_answer) :: expected
+        expected = stopped(0, 3, 0)
+        expected%overflowed = 1
+        call run(64_c_int64_t, sum, [most, 1_c_int64_t, 0_c_int64_t], 3_c_int64_t, 0, expected)
+        call run(8_c_int64_t, sum, [255_c_int64_t, 1_c_int64_t, 0_c_int64_t], most, 0, expected)
+        expected%overflowed = 0
+        expected%number = most
+        call run(64_c_int64_t, sum, [most - 1, 1_c_int64_t, 0_c_int64_t], 3_c_int64_t, 0, expected)
+        call run(8_c_int64_t, quotient, [7_c_int64_t, 0_c_int64_t, 0_c_int64_t], most, razovinto_divisor_zero, &
+            stopped(2, 3, 0))
+    end subroutine
+
+    ! A power and a logarithm stopped within, and a full hand.
+    subroutine check_stopped()
+        integer(c_int8_t), parameter :: power(3) = &
+            [razovinto_kind_literal, razovinto_kind_literal, razovinto_kind_power]
+        integer(c_int8_t), parameter :: logarithm(3) = &
+            [razovinto_kind_literal, razovinto_kind_literal, razovinto_kind_logarithm]
+        integer(c_int64_t), parameter :: powers(3) = [16, 7, 0], logarithms(3) = [2, 255, 0]
+        type(razovinto_run_answer) :: expected
+        expected = stopped(2, 4, 2)
+        expected%phase = razovinto_within_power
+        expected%power = razovinto_power_numbers(0, 16, 1, 0, 3)
+        call run(8_c_int64_t, power, powers, 4_c_int64_t, razovinto_allowance_spent, expected)
+        expected = stopped(2, 9, 2)
+        expected%phase = razovinto_within_logarithm
+        expected%logarithm = razovinto_logarithm_numbers(2, 3, 6)
+        call run(8_c_int64_t, logarithm, logarithms, 9_c_int64_t, razovinto_allowance_spent, expected)
+        expected = stopped(0, 0, 0)
+        call run(8_c_int64_t, power, powers, 0_c_int64_t, razovinto_allowance_spent, expected)
+        call check_hand()
+    end subroutine
+
+    ! 255 1 sum and 31 literals, added up: 32 values on hand, of which the first is overflowed.
+    subroutine check_hand()
+        integer(c_int8_t), parameter :: kinds(65) = &
+            [literals(:2), razovinto_kind_sum, literals(:31), [(razovinto_kind_sum, i = 1, 31)]]
+        integer(c_int64_t), parameter :: numbers(65) = [255_c_int64_t, 1_c_int64_t, 0_c_int64_t, &
+            [(int(i, c_int64_t), i = 101, 131)], [(0_c_int64_t, i = 1, 31)]]
+        type(razovinto_run_answer) :: expected
+        expected = stopped(34, 34, 34)
+        expected%on_hand_overflowed(1) = 1
+        expected%on_hand(2:) = numbers(4:34)
+        call run(8_c_int64_t, kinds, numbers, 34_c_int64_t, razovinto_allowance_spent, expected)
+    end subroutine
+
+    ! The block of the numbers 1000 + i, where the sixth value is overflowed.
+    function made(number, count) result(bytes)
+        integer(c_int64_t), intent(in) :: number
+        integer, intent(in) :: count
+        integer(c_int8_t) :: bytes(512)
+        integer :: place
+        bytes = 0
+        call put(number, bytes(1:4))
+        bytes(5) = int(count, c_int8_t)
+        bytes(6) = 1
+        do place = 1, count
+            if (place == 6) then
+                bytes(448 + place) = 1
+            else
+                call put(1000_c_int64_t + place, bytes(8 * place + 1:8 * place + 8))
+            end if
+        end do
+        call check(bytes)
+    end function
+
+    subroutine put(number, bytes)
+        integer(c_int64_t), intent(in) :: number
+        integer(c_int8_t), intent(out) :: bytes(:)
+        integer :: place, digits
+        do place = 1, size(bytes)
+            digits = int(ibits(number, 8 * place - 8, 8))
+            bytes(place) = int(merge(digits - 256, digits, digits > 127), c_int8_t)
+        end do
+    end subroutine
+
+    ! Makes a block's check right.
+    subroutine check(bytes)
+        integer(c_int8_t), intent(inout) :: bytes(512)
+        integer(c_int64_t) :: sum
+        integer :: place
+        sum = 0
+        do place = 1, 508
+            sum = sum + place * iand(int(bytes(place), c_int64_t), 255_c_int64_t)
+        end do
+        call put(sum, bytes(509:512))
+    end subroutine
+
+    subroutine check_blocks()
+        integer(c_int8_t) :: block(513)
+        block = 0
+        block(:512) = made(4294967295_c_int64_t, 55)
+        call read(block(:512), 55, 55, 0, 4294967295_c_int64_t, 55)
+        call read(block(:512), 58, 56, 0, 4294967295_c_int64_t, 55)
+        call read(block(:512), 54, 55, razovinto_list_too_short, 0_c_int64_t, 0)
+        call read(block(:512), 55, 54, razovinto_list_too_short, 0_c_int64_t, 0)
+        call read(block(:511), 55, 55, razovinto_block_length, 0_c_int64_t, 0)
+        call read(block, 55, 55, razovinto_block_length, 0_c_int64_t, 0)
+        call read(block(:0), 0, 0, razovinto_block_length, 0_c_int64_t, 0)
+        block(512) = 1
+        call read(block(:512), 55, 55, razovinto_wrong_check, 0_c_int64_t, 0)
+        block(6) = 2
+        call check(block(:512))
+        call read(block(:512), 0, 0, razovinto_bad_layout, 0_c_int64_t, 0)
+        block(5:6) = [56_c_int8_t, 1_c_int8_t]
+        call check(block(:512))
+        call read(block(:512), 60, 60, razovinto_bad_layout, 0_c_int64_t, 0)
+        block(:512) = made(0_c_int64_t, 0)
+        call read(block(:512), 0, 0, 0, 0_c_int64_t, 0)
+    end subroutine
+
+    ! A read into lists with guards before and after, and whether the block is sound.
+    subroutine read(bytes, room_numbers, room_marks, refusal, number, count)
+        integer(c_int8_t), intent(in) :: bytes(:)
+        integer, intent(in) :: room_numbers, room_marks, count
+        integer(c_int32_t), intent(in) :: refusal
+        integer(c_int64_t), intent(in) :: number
+        type(razovinto_read_answer) :: head(3)
+        integer(c_int64_t) :: numbers(0:room_numbers + 1), expected(0:room_numbers + 1)
+        integer(c_int8_t) :: marks(0:room_marks + 1), expected_marks(0:room_marks + 1)
+        integer(c_int32_t) :: code
+        integer(c_size_t) :: length
+        integer :: place
+        do length = 0, razovinto_read_length + 1
+            numbers = 7777777
+            marks = 9
+            expected = numbers
+            expected_marks = marks
+            if (length >= razovinto_read_length) then
+                do place = 1, count
+                    expected(place) = merge(0, 1000 + place, place == 6)
+                    expected_marks(place) = merge(1_c_int8_t, 0_c_int8_t, place == 6)
+                end do
+            end if
+            head = transfer(junk, head, 3)
+            code = razovinto_read(bytes, size(bytes, kind=c_size_t), numbers(1:), int(room_numbers, c_size_t), &
+                marks(1:), int(room_marks, c_size_t), head(2), length)
+            call expect(code == wanted(refusal, length, razovinto_read_length), 'what a read returns')
+            call expect_answer(transfer(head, junk), [0_c_int64_t, number, int(count, c_int64_t)], length, 'a read')
+            call expect(all(numbers == expected) .and. all(marks == expected_marks), 'the values of a read')
+        end do
+        code = merge(0_c_int32_t, refusal, refusal == razovinto_list_too_short)
+        call expect(razovinto_sound(bytes, size(bytes, kind=c_size_t)) == code, 'whether a block is sound')
+    end subroutine
+
+    subroutine check_search()
+        integer(c_int8_t) :: blocks(1536)
+        blocks = [made(0_c_int64_t, 5), made(1_c_int64_t, 6), made(2_c_int64_t, 3)]
+        call search(blocks, 0, [0, 1, 1, 5])
+        call search(blocks(:512), 0, [0, 0, 0, 0])
+        call search(blocks(:0), 0, [0, 0, 0, 0])
+        call search(blocks(:1023), razovinto_block_length, [0, 0, 0, 0])
+        blocks(1025) = 9
+        call search(blocks, 0, [0, 1, 1, 5])
+        blocks(513) = 9
+        call search(blocks, razovinto_wrong_check, [1, 0, 0, 0])
+        blocks(6) = 2
+        call check(blocks(:512))
+        call search(blocks, razovinto_bad_layout, [0, 0, 0, 0])
+    end subroutine
+
+    subroutine search(bytes, refusal, expected)
+        integer(c_int8_t), intent(in) :: bytes(:)
+        integer(c_int32_t), intent(in) :: refusal
+        integer, intent(in) :: expected(4)
+        type(razovinto_search_answer) :: found(3)
+        integer(c_int32_t) :: code
+        integer(c_size_t) :: length
+        do length = 0, razovinto_search_length + 1
+            found = transfer(junk, found, 3)
+            code = razovinto_search(bytes, size(bytes, kind=c_size_t), found(2), length)
+            call expect(code == wanted(refusal, length, razovinto_search_length), 'what a search returns')
+            call expect_answer(transfer(found, junk), int(expected, c_int64_t), length, 'a search')
+        end do
+    end subroutine
+
+end program

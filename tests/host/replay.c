@@ -1,0 +1,424 @@
+/* Replays cases for hosts as a host written in C: calls the entry of each and writes its line, in the forms of
+ * docs/REPLAY.md.
+ *
+ *     replay CASES
+ *
+ * CASES is a file of tests/second/hosts.py. Each case is called twice, with lists between guard bytes and with lists
+ * that have nothing around them, and every byte that must stay is looked at. Ends with 1 where an entry does what it
+ * must not, and with 2 where CASES can't be read.
+ */
+#include "lent.h"
+#include "razovinto.h"
+
+#include <inttypes.h>
+
+enum { LIST = 4096, RUN = 65536, LINE = (2 * LIST + 8) * 21 };
+static const uint64_t number_before = 7777777;
+static const uint8_t mark_before = 9;
+
+static const char *path;
+static FILE *cases;
+static unsigned long case_number;
+
+/* A case as it was read. */
+static struct {
+    int row, kind;
+    uint64_t width, allowance, left, right;
+    size_t byte_count, number_count, mark_count;
+    uint8_t bytes[RUN];
+    uint64_t numbers[LIST];
+    uint8_t marks[LIST];
+} given;
+
+static char line[LINE];
+static size_t line_length;
+
+static void stop(int status, const char *what)
+{
+    fflush(stdout);
+    fprintf(stderr, "replay: %s, case %lu: %s\n", path, case_number, what);
+    exit(status);
+}
+
+/* Reading a case */
+
+static void take_bytes(uint8_t *bytes, size_t count)
+{
+    if (fread(bytes, 1, count, cases) != count)
+        stop(2, "cut short");
+}
+
+static uint64_t take(int size)
+{
+    uint8_t bytes[8];
+    uint64_t number = 0;
+    take_bytes(bytes, (size_t)size);
+    while (size-- > 0)
+        number = number << 8 | bytes[size];
+    return number;
+}
+
+static size_t take_count(int size, size_t most)
+{
+    uint64_t count = take(size);
+    if (count > most)
+        stop(2, "a list is too long");
+    return (size_t)count;
+}
+
+static void take_numbers(void)
+{
+    size_t i;
+    for (i = 0; i < given.number_count; i++)
+        given.numbers[i] = take(8);
+}
+
+static void take_recipe(void)
+{
+    given.width = take(1);
+    given.allowance = take(8);
+    given.byte_count = take_count(2, LIST);
+    given.number_count = take_count(2, LIST);
+    take_bytes(given.bytes, given.byte_count);
+    take_numbers();
+}
+
+static void take_field(void)
+{
+    given.number_count = take_count(2, LIST);
+    given.mark_count = take_count(2, LIST);
+    take_numbers();
+    take_bytes(given.marks, given.mark_count);
+}
+
+static void take_block(void)
+{
+    size_t i;
+    given.byte_count = take_count(2, LIST);
+    given.number_count = take_count(2, LIST);
+    given.mark_count = take_count(2, LIST);
+    take_bytes(given.bytes, given.byte_count);
+    for (i = 0; i < given.number_count; i++)
+        given.numbers[i] = number_before;
+    memset(given.marks, mark_before, given.mark_count);
+}
+
+static void take_operation(void)
+{
+    given.width = take(1);
+    given.kind = (int)take(1);
+    if (take(1) != 0)
+        stop(2, "no entry takes an overflowed operand");
+    given.left = take(8);
+    if (take(1) != 0)
+        stop(2, "no entry takes an overflowed operand");
+    given.right = take(8);
+    if (given.width != 64)
+        stop(2, "no entry has this width");
+    if (given.kind < RAZOVINTO_SUM || given.kind > RAZOVINTO_LOGARITHM)
+        stop(2, "no entry has this kind");
+}
+
+static void take_signed(void)
+{
+    given.width = take(1);
+    given.kind = (int)take(1);
+    given.left = take(8);
+    given.right = take(8);
+    if (given.width != 64)
+        stop(2, "no entry has this width");
+    if (given.kind > 1)
+        stop(2, "neither quotient nor remainder");
+}
+
+/* Reads a case; 0 at the end. */
+static int take_case(void)
+{
+    given.row = fgetc(cases);
+    if (given.row == EOF)
+        return 0;
+    case_number++;
+    switch (given.row) {
+    case 1:
+        take_recipe();
+        break;
+    case 2:
+        take_field();
+        break;
+    case 3:
+        take_block();
+        break;
+    case 4:
+        given.byte_count = take_count(4, RUN);
+        take_bytes(given.bytes, given.byte_count);
+        break;
+    case 5:
+        take_operation();
+        break;
+    case 6:
+        take_signed();
+        break;
+    case 7:
+        given.left = take(8);
+        given.right = take(8);
+        break;
+    default:
+        stop(2, "no entry for its first byte");
+    }
+    return 1;
+}
+
+/* Writing a line */
+
+static void put(uint64_t number)
+{
+    int length = snprintf(line + line_length, LINE - line_length, line_length ? " %" PRIu64 : "%" PRIu64, number);
+    if (length < 0 || (size_t)length >= LINE - line_length)
+        stop(2, "a line is too long");
+    line_length += (size_t)length;
+}
+
+/* Takes a list back of which nothing may have changed but the first `written` bytes. */
+static void back(struct lent *lent, size_t written)
+{
+    if (!stayed(lent, written))
+        stop(1, "a byte changed that must stay");
+    take_back(lent);
+}
+
+/* The answer, out of its list. */
+static void answer_back(struct lent *lent, void *answer)
+{
+    memcpy(answer, start_of(lent), lent->size);
+    back(lent, lent->size);
+}
+
+/* A list of bytes; between guards it stands off an aligned place, in each case by another number of bytes. */
+static struct lent lend_bytes(const void *list, size_t size, size_t guard)
+{
+    return lend(list, size, guard == 0 ? 0 : guard + case_number % 8);
+}
+
+/* Calling the entries */
+
+static int is_shape(uint32_t code)
+{
+    return code >= RAZOVINTO_UNKNOWN_WIDTH && code <= RAZOVINTO_NONE_LEFT;
+}
+
+/* The shape alone, which must be refused as the run was. */
+static void call_shape(uint32_t code, uint64_t place, size_t guard)
+{
+    struct lent kinds = lend_bytes(given.bytes, given.byte_count, guard);
+    struct lent numbers = lend(given.numbers, given.number_count * 8, guard);
+    struct lent lent = lend(NULL, sizeof(struct razovinto_shape), guard);
+    struct razovinto_shape shape;
+    int refused = is_shape(code);
+    uint64_t limit = refused ? 0 : UINT64_MAX >> (64 - given.width);
+    uint32_t shape_code = razovinto_shape(given.width, start_of(&kinds), given.byte_count, start_of(&numbers),
+                                          given.number_count, start_of(&lent), sizeof shape / 8);
+    answer_back(&lent, &shape);
+    back(&kinds, 0);
+    back(&numbers, 0);
+    if (shape_code != (refused ? code : 0) || shape.place != (refused ? place : 0) || shape.limit != limit)
+        stop(1, "the shape alone is another than the run's");
+}
+
+/* The phase's five numbers; those of the other phases must be 0. */
+static void put_phase(const struct razovinto_run *ran)
+{
+    const uint64_t power[5] = {ran->power.first_overflowed, ran->power.first, ran->power.second_overflowed,
+                               ran->power.second, ran->power.exponent};
+    const uint64_t logarithm[5] = {ran->logarithm.base, ran->logarithm.left, ran->logarithm.count, 0, 0};
+    const uint64_t *own = ran->phase == RAZOVINTO_WITHIN_LOGARITHM ? logarithm : power;
+    const uint64_t *other = own == power ? logarithm : power;
+    int i;
+    for (i = 0; i < 5; i++) {
+        put(own[i]);
+        if (other[i] != 0)
+            stop(1, "another phase's numbers aren't 0");
+    }
+}
+
+static void call_run(size_t guard)
+{
+    struct lent kinds = lend_bytes(given.bytes, given.byte_count, guard);
+    struct lent numbers = lend(given.numbers, given.number_count * 8, guard);
+    struct lent lent = lend(NULL, sizeof(struct razovinto_run), guard);
+    struct razovinto_run ran;
+    uint32_t code = razovinto_run(given.width, start_of(&kinds), given.byte_count, start_of(&numbers),
+                                  given.number_count, given.allowance, start_of(&lent), sizeof ran / 8);
+    int i;
+    answer_back(&lent, &ran);
+    back(&kinds, 0);
+    back(&numbers, 0);
+    call_shape(code, ran.place, guard);
+    put(code);
+    put(ran.place);
+    put(ran.overflowed);
+    put(ran.number);
+    put(ran.steps);
+    put(ran.done);
+    put(ran.phase);
+    put_phase(&ran);
+    for (i = 0; i < RAZOVINTO_PLACES; i++) {
+        put(ran.on_hand_overflowed[i]);
+        put(ran.on_hand[i]);
+    }
+}
+
+static void call_scan(size_t guard)
+{
+    struct lent numbers = lend(given.numbers, given.number_count * 8, guard);
+    struct lent marks = lend_bytes(given.marks, given.mark_count, guard);
+    struct lent lent = lend(NULL, sizeof(struct razovinto_range), guard);
+    struct razovinto_range range;
+    put(razovinto_scan(start_of(&numbers), given.number_count, start_of(&marks), given.mark_count, start_of(&lent),
+                       sizeof range / 8));
+    answer_back(&lent, &range);
+    back(&numbers, 0);
+    back(&marks, 0);
+    put(range.place);
+    put(range.least);
+    put(range.greatest);
+    put(range.width);
+}
+
+/* Whether the block is sound, which must be as the reader said: all but short lists. */
+static void call_sound(uint32_t code, size_t guard)
+{
+    struct lent block = lend_bytes(given.bytes, given.byte_count, guard);
+    if (razovinto_sound(start_of(&block), given.byte_count) != (code == RAZOVINTO_LIST_TOO_SHORT ? 0 : code))
+        stop(1, "the block is sound and can't be read, or the other way round");
+    back(&block, 0);
+}
+
+static void call_read(size_t guard)
+{
+    struct lent block = lend_bytes(given.bytes, given.byte_count, guard);
+    struct lent numbers = lend(given.numbers, given.number_count * 8, guard);
+    struct lent marks = lend_bytes(given.marks, given.mark_count, guard);
+    struct lent lent = lend(NULL, sizeof(struct razovinto_block), guard);
+    struct razovinto_block read;
+    uint64_t number;
+    size_t i;
+    uint32_t code = razovinto_read(start_of(&block), given.byte_count, start_of(&numbers), given.number_count,
+                                   start_of(&marks), given.mark_count, start_of(&lent), sizeof read / 8);
+    answer_back(&lent, &read);
+    call_sound(code, guard);
+    put(code);
+    put(read.place);
+    put(read.number);
+    put(read.count);
+    for (i = 0; i < given.number_count; i++) {
+        memcpy(&number, (uint8_t *)start_of(&numbers) + 8 * i, 8);
+        put(number);
+    }
+    for (i = 0; i < given.mark_count; i++)
+        put(((uint8_t *)start_of(&marks))[i]);
+    if (read.count > given.number_count || read.count > given.mark_count)
+        stop(1, "a count above the room that there is");
+    back(&block, 0);
+    back(&numbers, read.count * 8);
+    back(&marks, read.count);
+}
+
+static void call_search(size_t guard)
+{
+    struct lent run = lend_bytes(given.bytes, given.byte_count, guard);
+    struct lent lent = lend(NULL, sizeof(struct razovinto_found), guard);
+    struct razovinto_found found;
+    put(razovinto_search(start_of(&run), given.byte_count, start_of(&lent), sizeof found / 8));
+    answer_back(&lent, &found);
+    back(&run, 0);
+    put(found.place);
+    put(found.found);
+    put(found.position);
+    put(found.within);
+}
+
+static void call_operation(size_t guard)
+{
+    typedef uint32_t entry(uint64_t left, uint64_t right, uint8_t *result, size_t length);
+    static entry *const entries[] = {NULL, razovinto_sum, razovinto_product, razovinto_quotient, razovinto_remainder,
+                                     razovinto_power, razovinto_logarithm};
+    struct lent result = lend_bytes(NULL, RAZOVINTO_RESULT_SIZE, guard);
+    uint32_t code = entries[given.kind](given.left, given.right, start_of(&result), RAZOVINTO_RESULT_SIZE);
+    put(code);
+    put(0);
+    put(code ? 0 : (uint64_t)razovinto_overflowed(start_of(&result)));
+    put(code ? 0 : razovinto_number(start_of(&result)));
+    back(&result, code ? 0 : RAZOVINTO_RESULT_SIZE);
+}
+
+/* Two's complement as a number of its sign, without a conversion that C leaves to the compiler. */
+static int64_t as_signed(uint64_t digits)
+{
+    return digits <= INT64_MAX ? (int64_t)digits : -(int64_t)(UINT64_MAX - digits) - 1;
+}
+
+static void call_signed(size_t guard)
+{
+    struct lent result = lend(NULL, sizeof(int64_t), guard);
+    int64_t left = as_signed(given.left), right = as_signed(given.right), number = 0;
+    uint32_t code = given.kind ? razovinto_signed_remainder(left, right, start_of(&result), 1)
+                               : razovinto_signed_quotient(left, right, start_of(&result), 1);
+    if (code == 0)
+        memcpy(&number, start_of(&result), sizeof number);
+    put(code);
+    put(0);
+    put(number < 0);
+    put(number < 0 ? 0 - (uint64_t)number : (uint64_t)number);
+    back(&result, code ? 0 : sizeof number);
+}
+
+/* The case's line, from lists between guards of so many bytes. */
+static void call(size_t guard)
+{
+    line_length = 0;
+    switch (given.row) {
+    case 1:
+        call_run(guard);
+        break;
+    case 2:
+        call_scan(guard);
+        break;
+    case 3:
+        call_read(guard);
+        break;
+    case 4:
+        call_search(guard);
+        break;
+    case 5:
+        call_operation(guard);
+        break;
+    case 6:
+        call_signed(guard);
+        break;
+    default:
+        put(razovinto_power_fits(given.left, given.right));
+    }
+}
+
+int main(int count, char **words)
+{
+    static char first[LINE];
+    if (count != 2) {
+        fprintf(stderr, "usage: replay CASES\n");
+        return 2;
+    }
+    path = words[1];
+    cases = fopen(path, "rb");
+    if (cases == NULL)
+        stop(2, "the file can't be opened");
+    while (take_case()) {
+        call(GUARD);
+        memcpy(first, line, line_length + 1);
+        call(0);
+        if (strcmp(first, line) != 0)
+            stop(1, "another line without guard bytes");
+        puts(line);
+    }
+    fclose(cases);
+    return 0;
+}
