@@ -12,12 +12,11 @@ use native.Mathlib.Decide.{decLt, ℕ-discrete}
 use native.Mathlib.Omega.{arith}
 use borrow.Author.Tests.{ne-eqb}
 use lib.IntN.{ℤ}
-use lib.ListN.{length, drop, getD}
+use lib.ListN.{length, drop}
 use Rattle.checked.specs.Value.{limitOf}
 use Rattle.fit.specs.Fit.{powerFits}
 use Rattle.fit.proofs.Promises.{power-fits-exactly}
 use Rattle.signed.specs.Signed.{Answer}
-use Rattle.little.specs.Bytes.{bytesOf}
 use Rattle.little.proofs.Stored.{put-there, put-nowhere, length-put}
 use Rattle.layout.specs.Reading.{readFault, readingOf, numbersAfter, marksAfter}
 use Rattle.layout.specs.Layout.{editionOf}
@@ -32,7 +31,9 @@ use Rattle.hosts.specs.Answers.{ofShape, ofScan, ofReading, ofSearch, of
 use Rattle.hosts.proofs.Entries.{short-returned, roomy-returned, short-beside, roomy-beside}
 use Rattle.hosts.proofs.Signed.{short-signed-returned, roomy-signed-returned}
 use Rattle.hosts.proofs.Signed.{refused-signed-stays, number-signed-written}
-use Rattle.hosts.proofs.Runs.{run-of-words, bytes-of-marks}
+use Rattle.hosts.proofs.Runs.{run-of-words}
+-- of a run's four numbers of marks the bytes are the 32 marks, bottom first
+pub use Rattle.hosts.proofs.Runs.{marks-as-bytes}
 
 -- ---- answers of several numbers
 
@@ -94,15 +95,6 @@ pub answer-lengths
     (length (ofShape v .words) ≡ 2) × (length (ofScan s .words) ≡ 4) × (length (ofReading r .words) ≡ 3)
     × (length (ofSearch f .words) ≡ 4) × (length (ofRun (runOf W ks ns k) .words) ≡ 50)
 answer-lengths v s r f W ks ns k = (refl, refl, refl, refl, run-of-words W ks ns k)
-
--- of a run's four numbers of marks the bytes are the 32 marks, bottom first
-pub marks-as-bytes
-    : (W : ℕ) (ks ns : List ℕ) (k : ℕ) →
-    let words = ofRun (runOf W ks ns k) .words in
-    bytesOf 8 (getD words 14 0)
-    ++ (bytesOf 8 (getD words 15 0) ++ (bytesOf 8 (getD words 16 0) ++ bytesOf 8 (getD words 17 0)))
-    ≡ runOf W ks ns k .marks
-marks-as-bytes = bytes-of-marks
 
 -- ---- the reader's two lists
 

@@ -63,13 +63,14 @@ four-parts xs e =
     seam : (k : ℕ) → take 8 (drop k xs) ++ drop (k + 8) xs ≡ drop k xs
     seam k = ap (λ l. take 8 (drop k xs) ++ l) (sym (drop-drop 8 k xs)) ∙ take-append-drop 8 (drop k xs)
 
-pub bytes-of-marks
+-- of a run's four numbers of marks the bytes are the 32 marks, bottom first
+pub marks-as-bytes
     : (W : ℕ) (ks ns : List ℕ) (k : ℕ) →
     let words = ofRun (runOf W ks ns k) .words in
     bytesOf 8 (getD words 14 0)
     ++ (bytesOf 8 (getD words 15 0) ++ (bytesOf 8 (getD words 16 0) ++ bytesOf 8 (getD words 17 0)))
     ≡ runOf W ks ns k .marks
-bytes-of-marks W ks ns k =
+marks-as-bytes W ks ns k =
     ap₂ _++_ (there 0 (omega arith)) (ap₂ _++_ (there 8 (omega arith)) last)
     ∙ four-parts marks (places-shown W ks ns k .0)
   where

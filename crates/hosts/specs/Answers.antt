@@ -11,6 +11,7 @@ use Rattle.recipe.specs.Run.{Shown}
 use Rattle.field.specs.Range.{Scanned}
 use Rattle.layout.specs.Reading.{Reading, readingOf, numbersAfter, marksAfter}
 use Rattle.search.specs.Search.{Searched}
+use Rattle.hosts.specs.declared.types.PhaseNumbers.{PhaseNumbers}
 use Rattle.hosts.specs.Entry.{Told, besides}
 
 abbrev pub ofShape : Verdict → Told
@@ -46,6 +47,13 @@ phaseWords phase =
     getD phase 0 0
     ∷ ofPhase 1 phase 1 ∷ ofPhase 1 phase 2 ∷ ofPhase 1 phase 3 ∷ ofPhase 1 phase 4 ∷ ofPhase 1 phase 5
     ∷ ofPhase 2 phase 1 ∷ ofPhase 2 phase 2 ∷ ofPhase 2 phase 3 ∷ []
+
+-- the code's numbers of a phase, in this order
+abbrev pub phaseList : PhaseNumbers → List ℕ
+phaseList n =
+    n .phase
+    ∷ n .firstmark ∷ n .first ∷ n .secondmark ∷ n .second ∷ n .exponent
+    ∷ n .base ∷ n .left ∷ n .count ∷ []
 
 -- the 32 marks in four numbers of eight bytes, the lowest first: so they lie in memory as 32 bytes
 abbrev pub markWords : List ℕ → List ℕ

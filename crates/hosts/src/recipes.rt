@@ -1,6 +1,7 @@
 // The run of a recipe, and its shape alone.
 use crate::answer::put_two;
 use crate::answer::too_short;
+use crate::state::in_numbers;
 use crate::state::put_answer;
 use crate::state::put_marks;
 use crate::state::put_numbers;
@@ -105,7 +106,7 @@ fn put_run(lent: &mut [u64], shown: Run) -> u32
     let marks = shown.marks;
     let numbers = shown.numbers;
     let code = put_outcome(lent, answer, shown.steps, shown.done);
-    put_phase(lent, phase);
+    put_phase(lent, in_numbers(phase));
     put_marks(lent, &marks);
     put_numbers(lent, &numbers);
     code

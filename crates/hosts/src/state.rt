@@ -1,4 +1,5 @@
 // A run's answer and state in a lent list, part by part.
+use crate::types::PhaseNumbers;
 use checked::types::Checked64;
 use little::bytes::long;
 use steps::types::Logarithm;
@@ -13,7 +14,7 @@ ghost use Rattle.steps.specs.declared.types.Phase.the-variants.{Between, InPowe
 ghost use Rattle.little.specs.Bytes.{part, little};
 ghost use Rattle.places.specs.Places.{table};
 ghost use Rattle.recipe.specs.Run.{markOf, numberIn, phaseNumbers};
-ghost use Rattle.hosts.specs.Answers.{phaseWords, markWords};
+ghost use Rattle.hosts.specs.Answers.{phaseWords, markWords, phaseList};
 
 fn mark_of(value: Checked64) -> u64
     ensures { λ r. ⌜ r ≡ markOf value ⌝ }
@@ -52,65 +53,80 @@ pub(crate) fn put_answer(
     lent[4] = done;
 }
 
-fn put_between(lent: &mut [u64])
-    requires { ⌜ 50 ≤ length (now lent) ⌝ }
-    ensures { λ r. ⌜ now (lent .exit) ≡ sets (now (lent .entry)) 5 (phaseWords (phaseNumbers Between)) ⌝ }
+fn between() -> PhaseNumbers
+    ensures { λ r. ⌜ phaseList r ≡ phaseWords (phaseNumbers Between) ⌝ }
 {
-    lent[5] = 0;
-    lent[6] = 0;
-    lent[7] = 0;
-    lent[8] = 0;
-    lent[9] = 0;
-    lent[10] = 0;
-    lent[11] = 0;
-    lent[12] = 0;
-    lent[13] = 0;
+    PhaseNumbers {
+        phase: 0,
+        firstmark: 0,
+        first: 0,
+        secondmark: 0,
+        second: 0,
+        exponent: 0,
+        base: 0,
+        left: 0,
+        count: 0,
+    }
 }
 
-fn put_power(lent: &mut [u64], power: Power)
-    requires { ⌜ 50 ≤ length (now lent) ⌝ }
-    ensures { λ r. ⌜ now (lent .exit) ≡ sets (now (lent .entry)) 5 (phaseWords (phaseNumbers (InPower power))) ⌝ }
+fn of_power(power: Power) -> PhaseNumbers
+    ensures { λ r. ⌜ phaseList r ≡ phaseWords (phaseNumbers (InPower power)) ⌝ }
 {
     let first = power.first;
     let second = power.second;
-    lent[5] = 1;
-    lent[6] = mark_of(first);
-    lent[7] = number_in(first);
-    lent[8] = mark_of(second);
-    lent[9] = number_in(second);
-    lent[10] = power.exponent;
-    lent[11] = 0;
-    lent[12] = 0;
-    lent[13] = 0;
+    PhaseNumbers {
+        phase: 1,
+        firstmark: mark_of(first),
+        first: number_in(first),
+        secondmark: mark_of(second),
+        second: number_in(second),
+        exponent: power.exponent,
+        base: 0,
+        left: 0,
+        count: 0,
+    }
 }
 
-fn put_logarithm(lent: &mut [u64], logarithm: Logarithm)
-    requires { ⌜ 50 ≤ length (now lent) ⌝ }
-    ensures { λ r. ⌜
-        now (lent .exit) ≡ sets (now (lent .entry)) 5 (phaseWords (phaseNumbers (InLogarithm logarithm)))
-        ⌝ }
+fn of_logarithm(logarithm: Logarithm) -> PhaseNumbers
+    ensures { λ r. ⌜ phaseList r ≡ phaseWords (phaseNumbers (InLogarithm logarithm)) ⌝ }
 {
-    lent[5] = 2;
-    lent[6] = 0;
-    lent[7] = 0;
-    lent[8] = 0;
-    lent[9] = 0;
-    lent[10] = 0;
-    lent[11] = logarithm.base;
-    lent[12] = logarithm.left;
-    lent[13] = logarithm.count;
+    PhaseNumbers {
+        phase: 2,
+        firstmark: 0,
+        first: 0,
+        secondmark: 0,
+        second: 0,
+        exponent: 0,
+        base: logarithm.base,
+        left: logarithm.left,
+        count: logarithm.count,
+    }
+}
+
+pub(crate) fn in_numbers(phase: Phase) -> PhaseNumbers
+    ensures { λ r. ⌜ phaseList r ≡ phaseWords (phaseNumbers phase) ⌝ }
+{
+    match phase {
+        Phase::Between => between(),
+        Phase::InPower(power) => of_power(power),
+        Phase::InLogarithm(logarithm) => of_logarithm(logarithm),
+    }
 }
 
 // The phase with its numbers.
-pub(crate) fn put_phase(lent: &mut [u64], phase: Phase)
+pub(crate) fn put_phase(lent: &mut [u64], numbers: PhaseNumbers)
     requires { ⌜ 50 ≤ length (now lent) ⌝ }
-    ensures { λ r. ⌜ now (lent .exit) ≡ sets (now (lent .entry)) 5 (phaseWords (phaseNumbers phase)) ⌝ }
+    ensures { λ r. ⌜ now (lent .exit) ≡ sets (now (lent .entry)) 5 (phaseList numbers) ⌝ }
 {
-    match phase {
-        Phase::Between => put_between(lent),
-        Phase::InPower(power) => put_power(lent, power),
-        Phase::InLogarithm(logarithm) => put_logarithm(lent, logarithm),
-    }
+    lent[5] = numbers.phase;
+    lent[6] = numbers.firstmark;
+    lent[7] = numbers.first;
+    lent[8] = numbers.secondmark;
+    lent[9] = numbers.second;
+    lent[10] = numbers.exponent;
+    lent[11] = numbers.base;
+    lent[12] = numbers.left;
+    lent[13] = numbers.count;
 }
 
 // Eight marks as one number, the first its lowest byte.

@@ -37,9 +37,10 @@ returns c =
     let g = start .args in
     let a = known .answer .given in
     let v = a .0 .0 in
+    let place = value-place v in
     let e =
     put .put-value .ensures
-    ∙ ap (λ p. sets (g .lent .now) 0 (p ∷ given v .mark ∷ given v .number ∷ g .steps ∷ g .done ∷ [])) (value-place v) in (
+    ∙ ap (λ p. sets (g .lent .now) 0 (p ∷ given v .mark ∷ given v .number ∷ g .steps ∷ g .done ∷ [])) place in (
       at (λ x. answerOf x .code) (value-code v) (a .1),
       at (λ x. headStored (g .lent .now) (answerOf x) (g .steps) (g .done)) e (a .1),
     )
