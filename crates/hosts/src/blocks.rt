@@ -21,6 +21,7 @@ const BLOCK_ANSWER_LENGTH: usize = 3;
 // The refusal's place, or 0 with whether a value was found, its block's position and its place there.
 const FOUND_LENGTH: usize = 4;
 
+// 0 where the block is sound, or why it isn't. The place would always be 0.
 #[no_mangle]
 pub extern "C" fn razovinto_sound(block: &[u8]) -> u32
     ensures { λ r. ⌜ r ≡ soundOf (now (block .entry)) .code ⌝ }
@@ -31,6 +32,8 @@ pub extern "C" fn razovinto_sound(block: &[u8]) -> u32
     }
 }
 
+// The block's values go into the two lists, which stay on every refusal: where there is no room for the answer, the
+// block isn't looked at.
 #[no_mangle]
 pub extern "C" fn razovinto_read(
     block: &[u8],
@@ -72,6 +75,7 @@ pub extern "C" fn razovinto_read(
     }
 }
 
+// The first overflowed value of a run of blocks, or none; on a refusal the position of the bad block.
 #[no_mangle]
 pub extern "C" fn razovinto_search(run: &[u8], answer: &mut [u64]) -> u32
     ensures { λ r. ⌜ r ≡ answerCode (ofSearch (searchOf (now (run .entry)))) (now (answer .entry)) ⌝ }

@@ -11,6 +11,7 @@ ghost use Rattle.hosts.specs.Answers.{ofScan};
 // The refusal's place, or 0 with least, greatest and packing width.
 const RANGE_LENGTH: usize = 4;
 
+// The range of a field that has no overflowed place; on a refusal its place, and zeros.
 #[no_mangle]
 pub extern "C" fn razovinto_scan(numbers: &[u64], marks: &[u8], answer: &mut [u64]) -> u32
     ensures { λ r. ⌜

@@ -23,6 +23,7 @@ pub extern "C" fn razovinto_power_fits(base: u64, exponent: u64) -> u32
     0
 }
 
+// The number is written and 0 returned, or the refusal's number is, and the list stays.
 fn put_signed(result: &mut [i64], answer: Signed64) -> u32
     requires { ⌜ 1 ≤ length (now result) ⌝ }
     ensures { λ r. ⌜ r ≡ signedCode (answer64 answer) (now (result .entry)) ⌝ }
@@ -37,6 +38,7 @@ fn put_signed(result: &mut [i64], answer: Signed64) -> u32
     }
 }
 
+// The truncating quotient. The smallest number by -1 is refused with 4.
 #[no_mangle]
 pub extern "C" fn razovinto_signed_quotient(left: i64, right: i64, result: &mut [i64]) -> u32
     ensures { λ r. ⌜ r ≡ signedCode (quotientOf 64 left right) (now (result .entry)) ⌝ }
@@ -48,6 +50,7 @@ pub extern "C" fn razovinto_signed_quotient(left: i64, right: i64, result: &mut 
     put_signed(result, quotient64(left, right))
 }
 
+// What it leaves, which for the smallest number by -1 is 0.
 #[no_mangle]
 pub extern "C" fn razovinto_signed_remainder(left: i64, right: i64, result: &mut [i64]) -> u32
     ensures { λ r. ⌜ r ≡ signedCode (remainderOf left right) (now (result .entry)) ⌝ }

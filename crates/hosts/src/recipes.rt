@@ -30,6 +30,7 @@ const SHAPE_LENGTH: usize = 2;
 // numbers.
 const RUN_LENGTH: usize = 50;
 
+// Whether a recipe is well formed, and the limit of its width.
 #[no_mangle]
 pub extern "C" fn razovinto_shape(
     width: u64,
@@ -60,6 +61,7 @@ pub extern "C" fn razovinto_shape(
     }
 }
 
+// A value, with no place to tell.
 fn put_value(lent: &mut [u64], value: Checked64, steps: u64, done: u64)
     requires { ⌜ 50 ≤ length (now lent) ⌝ }
     ensures { λ r. ⌜
@@ -112,6 +114,7 @@ fn put_run(lent: &mut [u64], shown: Run) -> u32
     code
 }
 
+// What a run shows: all of it, whatever its answer is.
 #[no_mangle]
 pub extern "C" fn razovinto_run(
     width: u64,
