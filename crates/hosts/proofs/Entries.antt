@@ -4,12 +4,15 @@ use mathlib.Core.Path.{_≡_, sym, ap, _∙_}
 use mathlib.Core.Bool.{cond}
 use mathlib.Core.List.{List}
 use Prim.Native.Nat.{ℕ, _≤_, _<_}
+use native.Mathlib.Decide.{ℕ-discrete}
 use native.Mathlib.Omega.{arith}
 use borrow.Author.Tests.{lt-ltb, le-ltb}
 use lib.ListN.{length}
 use lib.Seq.{sets}
 use Rattle.little.proofs.Stored.{put-stored, put-nowhere}
-use Rattle.layout.specs.Reading.{readingOf, numbersAfter, marksAfter}
+use Rattle.layout.specs.Layout.{editionOf}
+use Rattle.layout.specs.Reading.{readFault, readingOf, numbersAfter, marksAfter}
+use Rattle.layout.proofs.Promises.{given-where-accepted, refused-at-0}
 use Rattle.block.specs.declared.types.Read.{Read}
 use Rattle.block.specs.Answers.{reading}
 use Rattle.hosts.specs.Entry.{Told, answerCode, answerList, besides}
@@ -84,3 +87,11 @@ module _ (b numbers marks lent : List ℕ) where
       let n = roomy-beside told lent (numbersAfter b numbers marks) numbers h in
       let m = roomy-beside told lent (marksAfter b numbers marks) marks h in
       (g .0, (g .1, (filled ∙ sym n, marked ∙ sym m)))
+
+-- what the reader answers has its fault's number
+pub reading-code : (b numbers marks : List ℕ) → readingOf b numbers marks .code ≡ readFault b numbers marks
+reading-code b numbers marks =
+    elim (ℕ-discrete (readFault b numbers marks) 0) [
+      | yes e ↦ ap (λ r. r .code) (given-where-accepted (editionOf b) b numbers marks e) ∙ sym e
+      | no n ↦ ap (λ r. r .code) (refused-at-0 (editionOf b) b numbers marks n)
+    ]

@@ -3,6 +3,7 @@
 pub mod Entries
 pub mod Signed
 pub mod Runs
+pub mod Exactly
 pub mod Promises
 pub mod Unique
 pub mod Examples

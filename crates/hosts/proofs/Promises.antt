@@ -8,72 +8,52 @@ use mathlib.Core.Logic.{_↔_, _⊎_, inl, inr, ⊎-elim}
 use mathlib.Core.Bool.{Bool, true, false, cond}
 use mathlib.Core.List.{List, _∷_, _++_}
 use Prim.Native.Nat.{ℕ, _+_, _^_, _≤_, _<_}
-use native.Mathlib.Decide.{decLt, ℕ-discrete}
+use native.Mathlib.Decide.{decLt}
 use native.Mathlib.Omega.{arith}
 use borrow.Author.Tests.{ne-eqb}
-use lib.IntN.{ℤ}
+use lib.IntN.{ℤ, pos, negsuc}
 use lib.ListN.{length, drop}
 use Rattle.checked.specs.Value.{limitOf}
 use Rattle.fit.specs.Fit.{powerFits}
 use Rattle.fit.proofs.Promises.{power-fits-exactly}
-use Rattle.signed.specs.Signed.{Answer}
+use Rattle.signed.specs.Signed.{Answer, refused, quotientOf, remainderOf, inRange, smallest}
+use Rattle.signed.proofs.Promises.{one-exactly, four-exactly, quotient-only-codes, remainder-one-exactly}
+use Rattle.signed.proofs.Promises.{remainder-only-codes}
 use Rattle.little.proofs.Stored.{put-there, put-nowhere, length-put}
 use Rattle.layout.specs.Reading.{readFault, readingOf, numbersAfter, marksAfter}
-use Rattle.layout.specs.Layout.{editionOf}
-use Rattle.layout.proofs.Promises.{given-where-accepted, lists-stay}
-use Rattle.shape.specs.Shape.{Verdict}
-use Rattle.field.specs.Range.{Scanned}
+use Rattle.layout.specs.Layout.{count, editionOf}
+use Rattle.layout.specs.Sound.{faultOf}
+use Rattle.layout.proofs.Promises.{given-where-accepted, lists-stay, refused-19-exactly}
+use Rattle.shape.specs.Shape.{Verdict, shapeOf}
+use Rattle.shape.proofs.Promises.{shape-numbers}
+use Rattle.field.specs.Range.{Scanned, scanOf}
+use Rattle.field.proofs.Promises as scan
 use Rattle.layout.specs.Reading.{Reading}
-use Rattle.search.specs.Search.{Searched}
+use Rattle.block.specs.Answers.{withCode, soundOf}
+use Rattle.search.specs.Search.{Searched, searchOf}
+use Rattle.search.proofs.Promises as search
 use Rattle.recipe.specs.Run.{runOf}
-use Rattle.hosts.specs.Entry.{Told, answerCode, answerList, signedCode, signedList}
+use Rattle.recipe.proofs.Promises as run
+use Rattle.hosts.specs.Entry.{Told, Room, answerCode, answerList, signedCode, signedList}
 use Rattle.hosts.specs.Answers.{ofShape, ofScan, ofReading, ofSearch, ofRun, numbersBeside, marksBeside}
-use Rattle.hosts.proofs.Entries.{short-returned, roomy-returned, short-beside, roomy-beside}
-use Rattle.hosts.proofs.Signed.{short-signed-returned, roomy-signed-returned}
+use Rattle.hosts.proofs.Entries.{short-returned, roomy-returned, short-beside, roomy-beside, reading-code}
+use Rattle.hosts.proofs.Signed.{short-signed-returned}
 use Rattle.hosts.proofs.Signed.{refused-signed-stays, number-signed-written}
+use Rattle.hosts.proofs.Signed.{quotient-refused, remainder-refused}
+use Rattle.hosts.proofs.Exactly.{no-room-exactly, signed-no-room-exactly, signed-exactly}
 use Rattle.hosts.proofs.Runs.{run-of-words}
+-- 19 exactly when there is no room, or it is the answer's own number; any other number exactly when there is room and
+-- it is the answer's own; and so of one signed number
+pub use Rattle.hosts.proofs.Exactly.{answer-19-exactly, answer-code-exactly, signed-code-exactly}
 -- of a run's four numbers of marks the bytes are the 32 marks, bottom first
 pub use Rattle.hosts.proofs.Runs.{marks-as-bytes}
 
 -- ---- answers of several numbers
 
--- the list has room for all of them
-abbrev pub Room : Told → List ℕ → Type 0
-Room t lent = length (t .words) ≤ length lent
-
 module _ (t : Told) (lent : List ℕ) where
   -- whatever the answer is, a list without room for it is refused with 19, and stays
   pub no-room-refused-first : length lent < length (t .words) → (answerCode t lent ≡ 19) × (answerList t lent ≡ lent)
   no-room-refused-first h = (short-returned t lent h, put-nowhere 0 (t .words) lent (omega arith))
-
-  -- 19 exactly when there is no room, or it is the answer's own number
-  pub answer-19-exactly : (answerCode t lent ≡ 19) ↔ ((length lent < length (t .words)) ⊎ (t .code ≡ 19))
-  answer-19-exactly = (only, ⊎-elim (short-returned t lent) back)
-    where
-      only : answerCode t lent ≡ 19 → (length lent < length (t .words)) ⊎ (t .code ≡ 19)
-      only e =
-          elim (decLt (length lent) (length (t .words))) [
-            | yes h ↦ inl h
-            | no n ↦ inr (sym (roomy-returned t lent (omega arith)) ∙ e)
-          ]
-
-      back : t .code ≡ 19 → answerCode t lent ≡ 19
-      back e =
-          elim (decLt (length lent) (length (t .words))) [
-            | yes h ↦ short-returned t lent h
-            | no n ↦ roomy-returned t lent (omega arith) ∙ e
-          ]
-
-  -- any other number exactly when there is room and it is the answer's own
-  pub answer-code-exactly : (n : ℕ) → (n ≡ 19 → ⊥) → (answerCode t lent ≡ n) ↔ (Room t lent × (t .code ≡ n))
-  answer-code-exactly n other = (only, λ p. roomy-returned t lent (p .0) ∙ p .1)
-    where
-      only : answerCode t lent ≡ n → Room t lent × (t .code ≡ n)
-      only e =
-          elim (decLt (length lent) (length (t .words))) [
-            | yes h ↦ absurd (other (sym e ∙ short-returned t lent h))
-            | no m ↦ let r : Room t lent = omega arith in (r, sym (roomy-returned t lent r) ∙ e)
-          ]
 
   -- where there is room the answer's numbers stand in the first places, on a refusal too, and later ones stay
   pub answer-written : Room t lent → answerList t lent ≡ t .words ++ drop (length (t .words)) lent
@@ -95,6 +75,72 @@ pub answer-lengths
     (length (ofShape v .words) ≡ 2) × (length (ofScan s .words) ≡ 4) × (length (ofReading r .words) ≡ 3)
     × (length (ofSearch f .words) ≡ 4) × (length (ofRun (runOf W ks ns k) .words) ≡ 50)
 answer-lengths v s r f W ks ns k = (refl, refl, refl, refl, run-of-words W ks ns k)
+
+-- ---- 19, entry by entry
+
+-- the other four never have 19 of their own
+pub run-19-exactly
+    : (W : ℕ) (ks ns : List ℕ) (k : ℕ) (lent : List ℕ) →
+    (answerCode (ofRun (runOf W ks ns k)) lent ≡ 19) ↔ (length lent < 50)
+run-19-exactly W ks ns k lent = no-room-exactly (ofRun (runOf W ks ns k)) lent 50 (run-of-words W ks ns k) never
+  where
+    never : runOf W ks ns k .answer .code ≡ 19 → ⊥
+    never e = ⊎-elim (λ h. omega arith) (λ h. omega arith) (run.only-codes W ks ns k)
+
+pub shape-19-exactly
+    : (W : ℕ) (ks ns lent : List ℕ) → (answerCode (ofShape (shapeOf W ks ns)) lent ≡ 19) ↔ (length lent < 2)
+shape-19-exactly W ks ns lent = no-room-exactly (ofShape (shapeOf W ks ns)) lent 2 refl never
+  where
+    never : shapeOf W ks ns .code ≡ 19 → ⊥
+    never e = ⊎-elim (λ h. omega arith) (λ h. omega (arith, h .1)) (shape-numbers W ks ns)
+
+pub scan-19-exactly
+    : (numbers marks lent : List ℕ) → (answerCode (ofScan (scanOf numbers marks)) lent ≡ 19) ↔ (length lent < 4)
+scan-19-exactly numbers marks lent = no-room-exactly (ofScan (scanOf numbers marks)) lent 4 refl never
+  where
+    never : scanOf numbers marks .code ≡ 19 → ⊥
+    never e =
+        ⊎-elim (λ h. omega arith)
+        (⊎-elim (λ h. omega arith) (⊎-elim (λ h. omega arith) (⊎-elim (λ h. omega arith) (λ h. omega arith))))
+        (scan.only-codes numbers marks)
+
+pub search-19-exactly : (run lent : List ℕ) → (answerCode (ofSearch (searchOf run)) lent ≡ 19) ↔ (length lent < 4)
+search-19-exactly run lent = no-room-exactly (ofSearch (searchOf run)) lent 4 refl never
+  where
+    never : searchOf run .code ≡ 19 → ⊥
+    never e =
+        ⊎-elim (λ h. omega arith) (⊎-elim (λ h. omega arith) (⊎-elim (λ h. omega arith) (λ h. omega arith)))
+        (search.only-codes run)
+
+-- the reader's, also where the block is sound and one of the two lists has fewer places than it has values
+pub read-19-exactly
+    : (b numbers marks lent : List ℕ) →
+    (answerCode (ofReading (readingOf b numbers marks)) lent ≡ 19)
+    ↔ ((length lent < 3) ⊎ ((faultOf b ≡ 0) × ((length numbers < count b) ⊎ (length marks < count b))))
+read-19-exactly b numbers marks lent = (only, ⊎-elim (λ h. both .1 (inl h)) (λ p. both .1 (inr (own .1 p))))
+  where
+    both
+        : (answerCode (ofReading (readingOf b numbers marks)) lent ≡ 19)
+        ↔ ((length lent < 3) ⊎ (readingOf b numbers marks .code ≡ 19))
+    both = answer-19-exactly (ofReading (readingOf b numbers marks)) lent
+
+    own
+        : (readingOf b numbers marks .code ≡ 19)
+        ↔ ((faultOf b ≡ 0) × ((length numbers < count b) ⊎ (length marks < count b)))
+    own =
+        let f = refused-19-exactly (editionOf b) b numbers marks in
+        (λ e. f .0 (sym (reading-code b numbers marks) ∙ e), λ p. reading-code b numbers marks ∙ f .1 p)
+
+    only
+        : answerCode (ofReading (readingOf b numbers marks)) lent ≡ 19 →
+        (length lent < 3) ⊎ ((faultOf b ≡ 0) × ((length numbers < count b) ⊎ (length marks < count b)))
+    only e = ⊎-elim inl (λ c. inr (own .0 c)) (both .0 e)
+
+-- ---- a block alone
+
+-- a number exactly when looking at the block gives it, of which `block` says when that is
+pub sound-code-exactly : (b : List ℕ) (n : ℕ) → (soundOf b .code ≡ n) ↔ (soundOf b ≡ withCode n)
+sound-code-exactly b n = (λ e. ap withCode e, λ e. ap (λ l. l .code) e)
 
 -- ---- the reader's two lists
 
@@ -144,18 +190,6 @@ module _ (a : Answer) (lent : List ℤ) where
   pub signed-no-room-refused-first : length lent ≡ 0 → signedCode a lent ≡ 19
   signed-no-room-refused-first = short-signed-returned a lent
 
-  -- any number but 19 exactly when there is room and it is the answer's own
-  pub signed-code-exactly
-      : (n : ℕ) → (n ≡ 19 → ⊥) → (signedCode a lent ≡ n) ↔ ((1 ≤ length lent) × (a .code ≡ n))
-  signed-code-exactly n other = (only, λ p. roomy-signed-returned a lent (p .0) ∙ p .1)
-    where
-      only : signedCode a lent ≡ n → (1 ≤ length lent) × (a .code ≡ n)
-      only e =
-          elim (ℕ-discrete (length lent) 0) [
-            | yes h ↦ absurd (other (sym e ∙ short-signed-returned a lent h))
-            | no m ↦ let r : 1 ≤ length lent = omega arith in (r, sym (roomy-signed-returned a lent r) ∙ e)
-          ]
-
   -- with 0 the number stands in the first place, and later ones stay
   pub signed-written : signedCode a lent ≡ 0 → signedList a lent ≡ a .number ∷ drop 1 lent
   signed-written = number-signed-written a lent
@@ -163,6 +197,37 @@ module _ (a : Answer) (lent : List ℤ) where
   -- with a refusal all stay
   pub signed-refused-stays : (signedCode a lent ≡ 0 → ⊥) → signedList a lent ≡ lent
   signed-refused-stays n = refused-signed-stays a lent (ne-eqb (signedCode a lent) 0 n)
+
+module _ (a b : ℤ) (lent : List ℤ) where
+  -- 19 exactly when the list is empty
+  pub signed-quotient-19-exactly : (signedCode (quotientOf 64 a b) lent ≡ 19) ↔ (length lent ≡ 0)
+  signed-quotient-19-exactly =
+      signed-no-room-exactly (quotientOf 64 a b) lent
+      (λ e. ⊎-elim (λ h. omega arith) (⊎-elim (λ h. omega arith) (λ h. omega arith)) (quotient-only-codes 64 a b))
+
+  pub signed-remainder-19-exactly : (signedCode (remainderOf a b) lent ≡ 19) ↔ (length lent ≡ 0)
+  signed-remainder-19-exactly =
+      signed-no-room-exactly (remainderOf a b) lent
+      (λ e. ⊎-elim (λ h. omega arith) (λ h. omega arith) (remainder-only-codes a b))
+
+  -- 1 exactly when there is room and the divisor is 0
+  pub signed-quotient-1-exactly : (signedCode (quotientOf 64 a b) lent ≡ 1) ↔ ((1 ≤ length lent) × (b ≡ pos 0))
+  signed-quotient-1-exactly =
+      signed-exactly (quotientOf 64 a b) lent 1 (λ e. omega arith) (one-exactly 64 a b)
+      (quotient-refused 64 a b 1 (omega arith))
+
+  pub signed-remainder-1-exactly : (signedCode (remainderOf a b) lent ≡ 1) ↔ ((1 ≤ length lent) × (b ≡ pos 0))
+  signed-remainder-1-exactly =
+      signed-exactly (remainderOf a b) lent 1 (λ e. omega arith) (remainder-one-exactly a b)
+      (remainder-refused a b 1 (omega arith))
+
+  -- 4 exactly when there is room and it is the smallest number by -1
+  pub signed-quotient-4-exactly
+      : inRange 64 a ≡ true →
+      (signedCode (quotientOf 64 a b) lent ≡ 4) ↔ ((1 ≤ length lent) × ((a ≡ smallest 64) × (b ≡ negsuc 0)))
+  signed-quotient-4-exactly r =
+      signed-exactly (quotientOf 64 a b) lent 4 (λ e. omega arith) (four-exactly 64 a b r)
+      (quotient-refused 64 a b 4 (omega arith))
 
 -- ---- power-fit
 
@@ -176,3 +241,20 @@ power-fits-1-exactly b e = (only, λ h. ap (λ t. cond t 1 0) (power-fits-exactl
 
     only : _≡_ {A = ℕ} (cond (powerFits b e) 1 0) 1 → b ^ e ≤ limitOf 64
     only o = power-fits-exactly b e .0 (of-one (powerFits b e) o)
+
+-- and 0 exactly when it is above
+pub power-fits-0-exactly : (b e : ℕ) → (_≡_ {A = ℕ} (cond (powerFits b e) 1 0) 0) ↔ (limitOf 64 < b ^ e)
+power-fits-0-exactly b e = (only, back (powerFits b e) refl)
+  where
+    only : _≡_ {A = ℕ} (cond (powerFits b e) 1 0) 0 → limitOf 64 < b ^ e
+    only z =
+        elim (decLt (limitOf 64) (b ^ e)) [
+          | yes h ↦ h
+          | no n ↦
+              let o = power-fits-1-exactly b e .1 (omega arith) in
+              let f : ⊥ = omega arith in absurd f
+        ]
+
+    back : (t : Bool) → powerFits b e ≡ t → limitOf 64 < b ^ e → _≡_ {A = ℕ} (cond (powerFits b e) 1 0) 0
+    back true q h = let g = power-fits-exactly b e .0 q in let f : ⊥ = omega arith in absurd f
+    back false q h = ap (λ t. cond t 1 0) q

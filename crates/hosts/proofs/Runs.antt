@@ -1,34 +1,18 @@
 -- A run's answer in a lent list: how many numbers it has, and that its parts, stored in turn, are the whole.
 -- Assumes nothing.
-use mathlib.Core.Path.{_≡_, refl, ap, ap₂, sym, _∙_}
-use mathlib.Core.List.{List, [], _∷_, _++_}
+use mathlib.Core.Path.{_≡_, ap, ap₂, sym, _∙_}
+use mathlib.Core.List.{List, _++_}
 use Prim.Native.Nat.{ℕ, _+_, _≤_}
 use native.Mathlib.Omega.{arith}
 use lib.ListN.{length, getD, take, drop, length-drop, take-append-drop}
 use lib.Seq.{sets, take-all, drop-drop, length-take-le}
-use Rattle.checked.specs.declared.types.Checked64.the-variants.{Fits, Overflowed}
-use Rattle.checked.specs.Value.{Value}
-use Rattle.checked.specs.Paper.{Paper, given}
 use Rattle.little.specs.Bytes.{Bytes, part, little, bytesOf}
 use Rattle.little.proofs.Little.{bytes-little, part-bytes}
 use Rattle.places.specs.Places.{table}
 use Rattle.recipe.specs.Run.{Shown, runOf}
 use Rattle.recipe.proofs.Promises.{places-shown, marks-shown}
-use Rattle.hosts.specs.Answers.{phaseWords, markWords, ofRun}
+use Rattle.hosts.specs.Answers.{headOf, phaseWords, markWords, ofRun}
 use Rattle.places.proofs.Stores.{listed}
-
--- a value is no refusal
-pub value-code : (v : Value) → 0 ≡ given v .code
-value-code (Fits n) = refl
-value-code Overflowed = refl
-
-pub value-place : (v : Value) → 0 ≡ given v .place
-value-place (Fits n) = refl
-value-place Overflowed = refl
-
--- an answer in numbers, with the steps and the items done, stored at the head of the list
-abbrev pub headStored : List ℕ → Paper → ℕ → ℕ → List ℕ
-headStored old p steps done = sets old 0 (p .place ∷ p .mark ∷ p .number ∷ steps ∷ done ∷ [])
 
 -- with 32 places there are 50 numbers
 pub run-words : (s : Shown) → length (s .numbers) ≡ 32 → length (ofRun s .words) ≡ 50
@@ -40,7 +24,7 @@ run-of-words W ks ns k = run-words (runOf W ks ns k) (places-shown W ks ns k .1)
 -- the answer, the phase, the marks and the numbers
 pub run-stored
     : (s : Shown) (old answered phased marked all : List ℕ) → length (s .numbers) ≡ 32 →
-    answered ≡ headStored old (s .answer) (s .steps) (s .done) →
+    answered ≡ sets old 0 (headOf (s .answer) (s .steps) (s .done)) →
     phased ≡ sets answered 5 (phaseWords (s .phase)) → marked ≡ sets phased 14 (markWords (s .marks)) →
     all ≡ sets marked 18 (table (λ i. getD (s .numbers) i 0) 32) → all ≡ sets old 0 (ofRun s .words)
 run-stored s old answered phased marked all n a p m l =

@@ -12,7 +12,8 @@ use lib.ListN.{length, drop, set}
 use Rattle.checked.specs.declared.refusal.Refusal.{Refusal}
 use Rattle.checked.specs.Paper.{numberOf}
 use Rattle.checked.proofs.Unique.{not-zero}
-use Rattle.signed.specs.Signed.{Answer, number, refused}
+use Rattle.signed.specs.Signed.{Answer, number, refused, quotientOf, remainderOf}
+use Rattle.signed.proofs.Answers.{quotient, by-0, too-large, fitting, remainder, left-by-0, leaving}
 use Rattle.hosts.specs.Entry.{signedCode, signedList}
 
 module _ (a : Answer) (lent : List ℤ) where
@@ -64,3 +65,22 @@ pub signed-gives
     (r ≡ signedCode a lent) × (now ≡ signedList a lent) →
     (r ≡ signedCode wanted lent) × (now ≡ signedList wanted lent)
 signed-gives lent e g = (g .0 ∙ ap (λ a. signedCode a lent) e, g .1 ∙ ap (λ a. signedList a lent) e)
+
+-- ---- an answer with a refusal's code is that refusal
+
+pub quotient-refused
+    : (W : ℕ) (a b : ℤ) (n : ℕ) → 0 < n → quotientOf W a b .code ≡ n → quotientOf W a b ≡ refused n
+quotient-refused W a b n h e =
+    elim (quotient W a b) [
+      | by-0 z s ↦ s ∙ ap refused (sym (ap (λ x. x .code) s) ∙ e)
+      | too-large r s ↦ s ∙ ap refused (sym (ap (λ x. x .code) s) ∙ e)
+      | fitting m r s ↦ let f : ⊥ = omega (arith, ap (λ x. x .code) s) in absurd f
+    ]
+
+pub remainder-refused
+    : (a b : ℤ) (n : ℕ) → 0 < n → remainderOf a b .code ≡ n → remainderOf a b ≡ refused n
+remainder-refused a b n h e =
+    elim (remainder a b) [
+      | left-by-0 z s ↦ s ∙ ap refused (sym (ap (λ x. x .code) s) ∙ e)
+      | leaving m s ↦ let f : ⊥ = omega (arith, ap (λ x. x .code) s) in absurd f
+    ]

@@ -8,7 +8,7 @@ use Rattle.signed.specs.Signed.{Answer}
 use Rattle.layout.specs.Reading.{readingOf}
 use Rattle.little.proofs.Unique.{value-unique}
 use Rattle.hosts.specs.Entry.{Told, answerCode, answerList, signedCode, signedList}
-use Rattle.hosts.specs.Answers.{ofReading, numbersBeside, marksBeside}
+use Rattle.hosts.specs.Answers.{ofReading, numbersBeside, marksBeside, ReadsForHost}
 
 -- run, shape, scan and search: the number, and the list of the answer
 pub host-entry-unique
@@ -18,14 +18,7 @@ pub host-entry-unique
 host-entry-unique t lent r s now other g h =
     (value-unique r s (answerCode t lent) (g .0) (h .0), value-unique now other (answerList t lent) (g .1) (h .1))
 
--- the reader's whole contract: the number, the list of its answer, and the two lists that it fills
-abbrev pub ReadsForHost : (b numbers marks lent : List ℕ) → ℕ → List ℕ → List ℕ → List ℕ → Type 0
-ReadsForHost b numbers marks lent r now ns ms =
-    (r ≡ answerCode (ofReading (readingOf b numbers marks)) lent)
-    × (now ≡ answerList (ofReading (readingOf b numbers marks)) lent)
-    × (ns ≡ numbersBeside b numbers marks lent)
-    × (ms ≡ marksBeside b numbers marks lent)
-
+-- the reader: the number, the list of its answer, and the two lists that it fills
 pub host-read-unique
     : (b numbers marks lent : List ℕ) (r s : ℕ) (now ns ms now' ns' ms' : List ℕ) →
     ReadsForHost b numbers marks lent r now ns ms → ReadsForHost b numbers marks lent s now' ns' ms' →

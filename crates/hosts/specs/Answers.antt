@@ -1,10 +1,12 @@
 -- Each answer as an entry gives it: the number that is returned, and those that are written, a refusal's place first.
 -- Assumes nothing.
+use mathlib.Core.Path.{_≡_}
 use mathlib.Core.Bool.{cond}
 use mathlib.Core.List.{List, [], _∷_, _++_}
 use Prim.Native.Nat.{ℕ}
 use lib.Dec.{eqb}
 use lib.ListN.{getD}
+use Rattle.checked.specs.Paper.{Paper}
 use Rattle.little.specs.Bytes.{part, little}
 use Rattle.shape.specs.Shape.{Verdict}
 use Rattle.recipe.specs.Run.{Shown}
@@ -12,7 +14,7 @@ use Rattle.field.specs.Range.{Scanned}
 use Rattle.layout.specs.Reading.{Reading, readingOf, numbersAfter, marksAfter}
 use Rattle.search.specs.Search.{Searched}
 use Rattle.hosts.specs.declared.types.PhaseNumbers.{PhaseNumbers}
-use Rattle.hosts.specs.Entry.{Told, besides}
+use Rattle.hosts.specs.Entry.{Told, answerCode, answerList, besides}
 
 abbrev pub ofShape : Verdict → Told
 ofShape v = record { code = v .code; words = v .place ∷ v .limit ∷ [] }
@@ -31,6 +33,14 @@ numbersBeside b numbers marks lent =
 abbrev pub marksBeside : (b numbers marks lent : List ℕ) → List ℕ
 marksBeside b numbers marks lent =
     besides (ofReading (readingOf b numbers marks)) lent (marksAfter b numbers marks) marks
+
+-- the reader's whole contract: the number, the list of its answer, and the two lists that it fills
+abbrev pub ReadsForHost : (b numbers marks lent : List ℕ) → ℕ → List ℕ → List ℕ → List ℕ → Type 0
+ReadsForHost b numbers marks lent r now ns ms =
+    (r ≡ answerCode (ofReading (readingOf b numbers marks)) lent)
+    × (now ≡ answerList (ofReading (readingOf b numbers marks)) lent)
+    × (ns ≡ numbersBeside b numbers marks lent)
+    × (ms ≡ marksBeside b numbers marks lent)
 
 abbrev pub ofSearch : Searched → Told
 ofSearch s = record { code = s .code; words = s .place ∷ s .found ∷ s .position ∷ s .within ∷ [] }
@@ -60,12 +70,15 @@ abbrev pub markWords : List ℕ → List ℕ
 markWords marks =
     little (part 0 8 marks) ∷ little (part 8 8 marks) ∷ little (part 16 8 marks) ∷ little (part 24 8 marks) ∷ []
 
--- the answer, the steps taken, the items done, the phase, and the hand's 32 marks and numbers, bottom first
+-- an answer's place, mark and number, with the steps taken and the items done
+abbrev pub headOf : Paper → ℕ → ℕ → List ℕ
+headOf p steps done = p .place ∷ p .mark ∷ p .number ∷ steps ∷ done ∷ []
+
+-- these, then the phase, and the hand's 32 marks and numbers, bottom first
 abbrev pub ofRun : Shown → Told
 ofRun s =
     record {
       code = s .answer .code;
       words =
-          s .answer .place ∷ s .answer .mark ∷ s .answer .number ∷ s .steps ∷ s .done
-          ∷ phaseWords (s .phase) ++ markWords (s .marks) ++ s .numbers;
+          headOf (s .answer) (s .steps) (s .done) ++ phaseWords (s .phase) ++ markWords (s .marks) ++ s .numbers;
     }

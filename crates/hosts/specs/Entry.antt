@@ -2,7 +2,7 @@
 -- Assumes nothing.
 use mathlib.Core.Bool.{cond}
 use mathlib.Core.List.{List, _∷_}
-use Prim.Native.Nat.{ℕ}
+use Prim.Native.Nat.{ℕ, _≤_}
 use lib.Dec.{eqb, ltb}
 use lib.ListN.{length, drop}
 use lib.IntN.{ℤ}
@@ -15,6 +15,10 @@ use Rattle.signed.specs.Signed.{Answer}
 pub record Told : Type 0 where
   pub code : ℕ
   pub words : List ℕ
+
+-- a list has room for all of them
+abbrev pub Room : Told → List ℕ → Type 0
+Room t lent = length (t .words) ≤ length lent
 
 -- a list without room for all of them is refused with 19 before anything else is looked at
 unfoldable pub answerCode : Told → List ℕ → ℕ

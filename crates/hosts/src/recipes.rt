@@ -13,7 +13,6 @@ use recipe::types::Run;
 use shape::shape::shape;
 use shape::types::Shape;
 ghost use mathlib.Core.Path.{_≡_};
-ghost use mathlib.Core.List.{[], _∷_};
 ghost use Prim.Native.Nat.{_≤_};
 ghost use lib.ListN.{length};
 ghost use lib.Seq.{sets};
@@ -21,7 +20,7 @@ ghost use Rattle.checked.specs.Paper.{given};
 ghost use Rattle.shape.specs.Shape.{shapeOf};
 ghost use Rattle.recipe.specs.Run.{answerOf, paper, runOf};
 ghost use Rattle.hosts.specs.Entry.{answerCode, answerList};
-ghost use Rattle.hosts.specs.Answers.{ofShape, ofRun};
+ghost use Rattle.hosts.specs.Answers.{ofShape, headOf, ofRun};
 
 // The refusal's place, or 0 with the largest number of the width.
 const SHAPE_LENGTH: usize = 2;
@@ -64,10 +63,7 @@ pub extern "C" fn razovinto_shape(
 // A value, with no place to tell.
 fn put_value(lent: &mut [u64], value: Checked64, steps: u64, done: u64)
     requires { ⌜ 50 ≤ length (now lent) ⌝ }
-    ensures { λ r. ⌜
-        now (lent .exit) ≡
-        sets (now (lent .entry)) 0 (0 ∷ given value .mark ∷ given value .number ∷ steps ∷ done ∷ [])
-        ⌝ }
+    ensures { λ r. ⌜ now (lent .exit) ≡ sets (now (lent .entry)) 0 (headOf (given value) steps done) ⌝ }
 {
     match value {
         Checked64::Fits(n) => put_answer(lent, 0, 0, n, steps, done),
@@ -79,11 +75,7 @@ fn put_value(lent: &mut [u64], value: Checked64, steps: u64, done: u64)
 fn put_outcome(lent: &mut [u64], answer: Answer, steps: u64, done: u64) -> u32
     requires { ⌜ 50 ≤ length (now lent) ⌝ }
     ensures { λ r. ⌜ r ≡ answerOf answer .code ⌝ }
-    ensures { λ r. ⌜
-        now (lent .exit) ≡
-        sets (now (lent .entry)) 0
-        (answerOf answer .place ∷ answerOf answer .mark ∷ answerOf answer .number ∷ steps ∷ done ∷ [])
-        ⌝ }
+    ensures { λ r. ⌜ now (lent .exit) ≡ sets (now (lent .entry)) 0 (headOf (answerOf answer) steps done) ⌝ }
 {
     match answer {
         Answer::Value(value) => {

@@ -13,6 +13,7 @@ use Rattle.whole.specs.logarithm.{log-of}
 use Rattle.checked.specs.declared.types.Checked64.the-variants.{Fits, Overflowed}
 use Rattle.checked.specs.Value.{Value, limitOf, checkedOf}
 use Rattle.checked.specs.Paper.{given, refused}
+use Rattle.checked.proofs.Refused.{given-code}
 use Rattle.checked.proofs.Limit.{fits, over}
 use Rattle.checked.proofs.Promises.{log-below-width}
 use Rattle.shape.specs.Items.{Operation, sum, product, quotient, remainder, power, logarithm}
@@ -59,10 +60,6 @@ stage logarithm l r =
     ]
 
 -- ---- its code
-
-given-code : (v : Value) → given v .code ≡ 0
-given-code (Fits n) = refl
-given-code Overflowed = refl
 
 not-both : (o : Operation) (l r : ℕ) → ByZero o r → SmallBase o l → ⊥
 not-both sum l r d b = b

@@ -8,9 +8,9 @@ use native.Mathlib.Decide.{ℕ-discrete, decLt}
 use native.Mathlib.Omega.{arith}
 use borrow.Author.Tests.{ne-eqb}
 use lib.ListN.{length, getD}
-use Rattle.checked.specs.declared.types.Checked64.the-variants.{Fits, Overflowed}
 use Rattle.checked.specs.Value.{Value, limitOf, checkedOf}
-use Rattle.checked.specs.Paper.{Paper, given}
+use Rattle.checked.specs.Paper.{Paper}
+use Rattle.checked.proofs.Refused.{given-code}
 use Rattle.shape.specs.Items.{Item, items}
 use Rattle.shape.specs.Shape.{refused, Good, shapeOf}
 use Rattle.shape.proofs.Shapes.{shape-good}
@@ -28,10 +28,6 @@ use Rattle.recipe.specs.Run.{phaseNumbers, WellFormed, StopsAt}
 use Rattle.recipe.proofs.Shaped.{run-well-formed, run-refused}
 
 -- ---- what the meaning's answer is in numbers
-
-given-code : (v : Value) → given v .code ≡ 0
-given-code (Fits n) = refl
-given-code Overflowed = refl
 
 -- a number has no code
 pub answered-number : (M n : ℕ) → answered M (number n) .code ≡ 0

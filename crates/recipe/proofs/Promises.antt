@@ -185,6 +185,15 @@ module _ (W : ℕ) (ks ns : List ℕ) (k : ℕ) where
             | courses.enough w g r ↦ let f : ⊥ = omega (arith, not-enough c r q) in absurd f
           ]
 
+  -- no other number than 0 to 13 and 20 is given
+  pub only-codes : (code ≤ 13) ⊎ (code ≡ 20)
+  only-codes =
+      elim (courses.course W ks ns k) [
+        | courses.ill-formed c j l h s r ↦ inl (omega (arith, ap (λ r. r .answer .code) r))
+        | courses.short w h s ↦ inr (ap (λ r. r .answer .code) (s .6))
+        | courses.enough w h r ↦ inl (omega (arith, ap (λ r. r .answer .code) r, courses.answered-at-most W ks ns))
+      ]
+
   -- 20 exactly when the recipe is well formed and the allowance is below the count
   pub allowance-spent-exactly : (code ≡ 20) ↔ (WellFormed W ks ns × (k < countOf W ks ns))
   allowance-spent-exactly = (only, λ p. ap (λ r. r .answer .code) (short-stops W ks ns (p .0) k (p .1) .6))

@@ -1,12 +1,11 @@
 -- `recipes::put_outcome` meets its contract.
 -- Assumes nothing.
-use mathlib.Core.Path.{ap, _∙_}
-use mathlib.Core.List.{[], _∷_}
+use mathlib.Core.Path.{sym}
 use lib.Seq.{sets}
-use Rattle.checked.specs.Paper.{given}
-use Rattle.recipe.specs.Run.{answerOf}
-use Rattle.hosts.proofs.Runs.{headStored, value-code, value-place}
 use Rattle.checked.proofs.Arms.{at}
+use Rattle.checked.proofs.Refused.{given-code}
+use Rattle.recipe.specs.Run.{answerOf}
+use Rattle.hosts.specs.Answers.{headOf}
 use borrow.Author.Needs.{needs}
 use Rattle.hosts.proofs.recipes.put_outcome.Statement.{statement}
 use Rattle.hosts.proofs.recipes.put_outcome.Tie as tie
@@ -35,14 +34,9 @@ returns c =
     let known = put .before .before .before in
     let start = known .before .before .before in
     let g = start .args in
-    let a = known .answer .given in
-    let v = a .0 .0 in
-    let place = value-place v in
-    let e =
-    put .put-value .ensures
-    ∙ ap (λ p. sets (g .lent .now) 0 (p ∷ given v .mark ∷ given v .number ∷ g .steps ∷ g .done ∷ [])) place in (
-      at (λ x. answerOf x .code) (value-code v) (a .1),
-      at (λ x. headStored (g .lent .now) (answerOf x) (g .steps) (g .done)) e (a .1),
+    let a = known .answer .given in (
+      at (λ x. answerOf x .code) (sym (given-code (a .0 .0))) (a .1),
+      at (λ x. sets (g .lent .now) 0 (headOf (answerOf x) (g .steps) (g .done))) (put .put-value .ensures) (a .1),
     )
 
 same-length-2 : tie.Need-same-length-2
@@ -56,7 +50,7 @@ returns-2 c =
     let g = start .args in
     let e = known .answer2 .given .1 in (
       at (λ x. answerOf x .code) (c .number .ensures) e,
-      at (λ x. headStored (g .lent .now) (answerOf x) (g .steps) (g .done)) (put .put-answer .ensures) e,
+      at (λ x. sets (g .lent .now) 0 (headOf (answerOf x) (g .steps) (g .done))) (put .put-answer .ensures) e,
     )
 
 pub put-outcome-spec : {M : Type 1} → statement M

@@ -1,9 +1,9 @@
 -- `recipes::put_value` meets its contract.
 -- Assumes nothing.
-use mathlib.Core.List.{[], _∷_}
 use lib.Seq.{sets}
 use Rattle.checked.specs.Paper.{given}
 use Rattle.checked.proofs.Arms.{at}
+use Rattle.hosts.specs.Answers.{headOf}
 use borrow.Author.Needs.{needs}
 use Rattle.hosts.proofs.recipes.put_value.Statement.{statement}
 use Rattle.hosts.proofs.recipes.put_value.Tie as tie
@@ -29,7 +29,7 @@ returns c =
     let known = put .before .before .before in
     let start = known .before .before .before in
     let g = start .args in
-    at (λ v. sets (g .lent .now) 0 (0 ∷ given v .mark ∷ given v .number ∷ g .steps ∷ g .done ∷ []))
+    at (λ v. sets (g .lent .now) 0 (headOf (given v) (g .steps) (g .done)))
     (put .put-answer .ensures) (known .value .given .1)
 
 same-length-2 : tie.Need-same-length-2
@@ -41,7 +41,7 @@ returns-2 c =
     let known = put .before .before in
     let start = known .before .before .before in
     let g = start .args in
-    at (λ v. sets (g .lent .now) 0 (0 ∷ given v .mark ∷ given v .number ∷ g .steps ∷ g .done ∷ []))
+    at (λ v. sets (g .lent .now) 0 (headOf (given v) (g .steps) (g .done)))
     (put .put-answer2 .ensures) (known .enum-told .given .1)
 
 pub put-value-spec : {M : Type 1} → statement M
