@@ -12,7 +12,8 @@
 ! The numbers go from 0 to 2**64 - 1, and Fortran has no unsigned integers: integer(c_int64_t) carries the 64 binary
 ! digits. Up to 2**63 - 1 the two readings agree; a number n from 2**63 on is seen as n - 2**64, so that -1_c_int64_t is
 ! 2**64 - 1. An integer that is below 0 for Fortran is therefore a large number here, and never a negative one; only
-! razovinto_signed_quotient and razovinto_signed_remainder take it as Fortran does. A byte from 128 on is below 0 too.
+! razovinto_signed_quotient and razovinto_signed_remainder take it as Fortran does. A byte from 128 on is below 0 too,
+! and so is a block's number from 2**31 on where razovinto_write takes it: there -1_c_int32_t is 2**32 - 1.
 module razovinto
     use, intrinsic :: iso_c_binding, only: c_int8_t, c_int32_t, c_int64_t, c_size_t
     implicit none
@@ -20,14 +21,14 @@ module razovinto
     public :: razovinto_sum, razovinto_product, razovinto_quotient, razovinto_remainder, razovinto_power, &
         razovinto_logarithm, razovinto_number, razovinto_overflowed, razovinto_power_fits, razovinto_signed_quotient, &
         razovinto_signed_remainder, razovinto_run, razovinto_shape, razovinto_scan, razovinto_sound, razovinto_read, &
-        razovinto_search, razovinto_refusal_text
+        razovinto_write, razovinto_written_size, razovinto_search, razovinto_refusal_text
 
     character(len=*), parameter, public :: &
-        razovinto_version = '4.0.0'
+        razovinto_version = '4.1.0'
     integer, parameter, public :: &
         razovinto_version_major = 4
     integer, parameter, public :: &
-        razovinto_version_minor = 0
+        razovinto_version_minor = 1
     integer, parameter, public :: &
         razovinto_version_patch = 0
 
@@ -87,6 +88,7 @@ module razovinto
     integer(c_size_t), parameter, public :: razovinto_run_length = 50
     integer(c_size_t), parameter, public :: razovinto_scan_length = 4
     integer(c_size_t), parameter, public :: razovinto_read_length = 3
+    integer(c_size_t), parameter, public :: razovinto_write_length = 2
     integer(c_size_t), parameter, public :: razovinto_search_length = 4
 
     ! Whether a recipe is well formed: the refusal's place, which is the item's index from 0, or how many items there
@@ -124,6 +126,12 @@ module razovinto
     ! What a block's head says; the refusal's place is 0.
     type, bind(c), public :: razovinto_read_answer
         integer(c_int64_t) :: place, number, count
+    end type
+
+    ! What a field was written to: the refusal's place, which is the element's index from 0 for 15; and the length of
+    ! the run that was written, in bytes.
+    type, bind(c), public :: razovinto_write_answer
+        integer(c_int64_t) :: place, length
     end type
 
     ! The first overflowed value of a run of blocks: the refusal's place, which is the bad block's position from 0;
@@ -299,6 +307,24 @@ module razovinto
             integer(c_int32_t) :: refusal
         end function
 
+        ! A field's blocks to the first of `bytes`, numbered from `first` on; each but the last has 55 values. Nothing
+        ! past them is written. An overflowed value is written as every other. razovinto_written_size says how many
+        ! bytes there must be. Refused with razovinto_lengths_differ, razovinto_field_empty; then with
+        ! razovinto_bad_mark at the earliest place that has it; then with razovinto_list_too_short where there are fewer
+        ! bytes than the field's blocks have, and last with razovinto_block_number_too_large where a block's number
+        ! would be above 2**32 - 1. The bytes stay as they are then.
+        function razovinto_write(first, numbers, number_count, marks, mark_count, bytes, byte_count, answer, length) &
+            bind(c, name='razovinto_write') result(refusal)
+            import :: c_int8_t, c_int32_t, c_int64_t, c_size_t, razovinto_write_answer
+            integer(c_int32_t), value :: first
+            integer(c_int64_t), intent(in) :: numbers(*)
+            integer(c_int8_t), intent(in) :: marks(*)
+            integer(c_int8_t), intent(inout) :: bytes(*)
+            integer(c_size_t), value :: number_count, mark_count, byte_count, length
+            type(razovinto_write_answer), intent(inout) :: answer
+            integer(c_int32_t) :: refusal
+        end function
+
         ! The first overflowed value of a run of blocks, each block being looked at whole before its marks count.
         ! Refused with razovinto_block_length, at place 0, where the run's length is no multiple of 512; or with the
         ! first bad block's refusal where no overflowed value comes before it.
@@ -312,6 +338,13 @@ module razovinto
     end interface
 
 contains
+
+    ! How many bytes a field of `count` values has in blocks.
+    pure function razovinto_written_size(count) result(bytes)
+        integer(c_size_t), intent(in) :: count
+        integer(c_size_t) :: bytes
+        bytes = (count + razovinto_block_values - 1) / razovinto_block_values * razovinto_block_size
+    end function
 
     ! The 64 binary digits of the number in the sixteen bytes of a result.
     pure function razovinto_number(bytes) result(number)

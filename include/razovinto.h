@@ -12,9 +12,9 @@
 #include <stddef.h>
 #include <stdint.h>
 
-#define RAZOVINTO_VERSION "4.0.0"
+#define RAZOVINTO_VERSION "4.1.0"
 #define RAZOVINTO_VERSION_MAJOR 4
-#define RAZOVINTO_VERSION_MINOR 0
+#define RAZOVINTO_VERSION_MINOR 1
 #define RAZOVINTO_VERSION_PATCH 0
 
 /* The refusals. Not every one has an entry here that gives it yet. */
@@ -234,11 +234,21 @@ uint32_t razovinto_scan(const uint64_t *numbers, size_t number_count, const uint
 #define RAZOVINTO_BLOCK_SIZE 512
 #define RAZOVINTO_BLOCK_VALUES 55
 
+/* How many bytes a field of `count` values has in blocks. */
+#define RAZOVINTO_WRITTEN_SIZE(count) \
+    (((size_t)(count) + RAZOVINTO_BLOCK_VALUES - 1) / RAZOVINTO_BLOCK_VALUES * RAZOVINTO_BLOCK_SIZE)
+
 /* What a block's head says. */
 struct razovinto_block {
     uint64_t place; /* of the refusal: 0 */
     uint64_t number;
     uint64_t count;
+};
+
+/* What a field was written to. */
+struct razovinto_written {
+    uint64_t place;  /* of the refusal: the element's index for 15, 0 otherwise */
+    uint64_t length; /* of the run that was written, in bytes */
 };
 
 /* The first overflowed value of a run of blocks. */
@@ -257,6 +267,20 @@ uint32_t razovinto_sound(const uint8_t *block, size_t length);
  * count elements; the two lists stay as they are then. */
 uint32_t razovinto_read(const uint8_t *block, size_t block_length, uint64_t *numbers, size_t number_count,
                         uint8_t *marks, size_t mark_count, uint64_t *answer, size_t length);
+
+/* A field's blocks to the first bytes of a run, numbered from `first` on; each but the last has 55 values. Nothing past
+ * them is written. An overflowed value is written as every other:
+ *
+ *     uint8_t run[RAZOVINTO_WRITTEN_SIZE(COUNT)];
+ *     struct razovinto_written written;
+ *     if (razovinto_write(0, numbers, COUNT, marks, COUNT, run, sizeof run, RAZOVINTO_ANSWER(written)) == 0)
+ *         fwrite(run, 1, written.length, file);
+ *
+ * Refused with RAZOVINTO_LENGTHS_DIFFER, RAZOVINTO_FIELD_EMPTY; then with RAZOVINTO_BAD_MARK at the earliest place that
+ * has it; then with RAZOVINTO_LIST_TOO_SHORT where the run is shorter than the field's blocks, and last with
+ * RAZOVINTO_BLOCK_NUMBER_TOO_LARGE where a block's number would be above 2^32 - 1. The run stays as it is then. */
+uint32_t razovinto_write(uint32_t first, const uint64_t *numbers, size_t number_count, const uint8_t *marks,
+                         size_t mark_count, uint8_t *run, size_t run_length, uint64_t *answer, size_t length);
 
 /* The first overflowed value of a run of blocks, each block being looked at whole before its marks count. Refused with
  * RAZOVINTO_BLOCK_LENGTH, at place 0, where the run's length is no multiple of 512; or with the first bad block's

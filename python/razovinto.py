@@ -34,13 +34,13 @@ import sys
 from array import array
 from typing import Any, Iterable, List, NamedTuple, Optional, Sequence, Tuple, Union
 
-__version__ = "4.0.0"
+__version__ = "4.1.0"
 
 __all__ = [
     "BLOCK_SIZE", "BLOCK_VALUES", "Block", "Field", "Found", "KINDS", "OVERFLOWED", "Overflowed", "PLACES", "Range",
     "Refusal", "Refused", "Run", "State", "WithinLogarithm", "WithinPower", "logarithm", "power", "power_fits",
     "product", "quotient", "read", "read_run", "refusal_text", "remainder", "run", "scan", "search", "shape",
-    "signed_quotient", "signed_remainder", "sound", "sum",
+    "signed_quotient", "signed_remainder", "sound", "sum", "write",
 ]
 
 BLOCK_SIZE = 512  # bytes of a block
@@ -51,6 +51,7 @@ PLACES = 32  # values that may be on hand
 KINDS = ("literal", "sum", "product", "quotient", "remainder", "power", "logarithm")
 
 _MOST = 2**64 - 1
+_MOST_BLOCK_NUMBER = 2**32 - 1
 _LEAST_SIGNED, _MOST_SIGNED = -(2**63), 2**63 - 1
 
 
@@ -289,6 +290,10 @@ class _BlockAnswer(ctypes.Structure):
     _fields_ = [(name, ctypes.c_uint64) for name in ("place", "number", "count")]
 
 
+class _WrittenAnswer(ctypes.Structure):
+    _fields_ = [(name, ctypes.c_uint64) for name in ("place", "length")]
+
+
 class _FoundAnswer(ctypes.Structure):
     _fields_ = [(name, ctypes.c_uint64) for name in ("place", "found", "position", "within")]
 
@@ -311,6 +316,7 @@ _ENTRIES = {
     "razovinto_scan": (*_LIST, *_LIST, *_LIST),
     "razovinto_sound": _LIST,
     "razovinto_read": (*_LIST, *_LIST, *_LIST, *_LIST),
+    "razovinto_write": (ctypes.c_uint32, *_LIST, *_LIST, *_LIST, *_LIST),
     "razovinto_search": (*_LIST, *_LIST),
 }
 
@@ -793,6 +799,35 @@ def _read_blocks(run: _Lent, numbers: array, marks: bytearray) -> int:
                 raise Refused(refusal, position)
             total += answer.count
     return total
+
+
+def write(first: int, numbers: Any, marks: Any = None, run: Any = None) -> Union[bytearray, int]:
+    """A field's blocks, numbered from `first` on; each but the last has 55 values.
+
+    A field is given as to `scan`, and what `read_run` gives is one. An overflowed value is written as every other.
+
+    Where no run is lent, the answer is a bytearray of the blocks. A run that is lent has them in its first bytes, 512
+    for each 55 values that are begun, and stays as it is past them; the answer is how many bytes were written.
+
+    Refused with 6, lists that differ in length, then 14, a field without a value; then 15 at the earliest place with a
+    mark that isn't 0 or 1, or 1 with a number not 0; then 19, a lent run shorter than the blocks, and 21, a block's
+    number above 2^32 - 1. A lent run stays as it is then.
+    """
+    first = _number("first", first, 0, _MOST_BLOCK_NUMBER)
+    if marks is None:
+        numbers, marks = _field(numbers)
+    answer = _WrittenAnswer()
+    with _lend("numbers", numbers, _NUMBERS) as lent_numbers, _lend("marks", marks, _BYTES) as lent_marks:
+        blocks = (lent_numbers.count + BLOCK_VALUES - 1) // BLOCK_VALUES
+        own_run = bytearray(BLOCK_SIZE * blocks) if run is None else run
+        with _lend_to_write("run", own_run, _BYTES) as lent_run:
+            _see_apart(lent_numbers, lent_run)
+            _see_apart(lent_marks, lent_run)
+            lists = (*lent_numbers.parameters, *lent_marks.parameters, *lent_run.parameters)
+            refusal = _library.razovinto_write(first, *lists, *_answer(answer))
+    if refusal:
+        raise Refused(refusal, answer.place)
+    return own_run if run is None else answer.length
 
 
 def _numpy() -> Any:

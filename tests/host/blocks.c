@@ -26,8 +26,9 @@ static void check(uint8_t *block)
     put(block + CHECK, sum, 4);
 }
 
-/* The block of so many of the field's values. */
-static void make_block(uint8_t *block, uint32_t number, size_t count)
+/* The block of so many values. */
+static void make_block_of(uint8_t *block, uint32_t number, const uint64_t *from, const uint8_t *their_marks,
+                          size_t count)
 {
     size_t i;
     memset(block, 0, SIZE);
@@ -35,9 +36,15 @@ static void make_block(uint8_t *block, uint32_t number, size_t count)
     block[COUNT] = (uint8_t)count;
     block[EDITION] = 1;
     for (i = 0; i < count; i++)
-        put(block + NUMBERS + 8 * i, numbers[i], 8);
-    memcpy(block + MARKS, marks, count);
+        put(block + NUMBERS + 8 * i, from[i], 8);
+    memcpy(block + MARKS, their_marks, count);
     check(block);
+}
+
+/* The block of so many of the field's values. */
+static void make_block(uint8_t *block, uint32_t number, size_t count)
+{
+    make_block_of(block, number, numbers, marks, count);
 }
 
 static void expect_sound_once(const char *what, const uint8_t *block, size_t length, size_t guard, uint32_t refusal)
@@ -210,6 +217,151 @@ static void check_last_place(void)
     numbers[5] = number;
 }
 
+/* A field of three blocks, of which the last has one value; places 5, 54 and 55 are overflowed. */
+enum { FIELD = 2 * VALUES + 1 };
+static uint64_t field[FIELD];
+static uint8_t field_marks[FIELD];
+
+static void make_field(void)
+{
+    size_t i;
+    for (i = 0; i < FIELD; i++) {
+        field_marks[i] = i == 5 || i == 54 || i == 55;
+        field[i] = field_marks[i] ? 0 : MOST - 1000 * i;
+    }
+}
+
+/* A write of the field's first values to a run of so many bytes. */
+static void expect_write(const char *what, uint32_t first, size_t number_count, size_t mark_count, size_t room,
+                         uint32_t refusal, uint64_t place)
+{
+    uint8_t blocks[3 * SIZE];
+    size_t at, written = refusal == 0 ? RAZOVINTO_WRITTEN_SIZE(number_count) : 0;
+    struct razovinto_written expected = {place, written};
+    struct call call = {.entry = WRITE, .first = first, .byte_count = room, .numbers = field,
+                        .number_count = number_count, .marks = field_marks, .mark_count = mark_count,
+                        .refusal = refusal, .answer = &expected, .written = written, .blocks = blocks};
+    for (at = 0; SIZE * at < written; at++)
+        make_block_of(blocks + SIZE * at, first + (uint32_t)at, field + VALUES * at, field_marks + VALUES * at,
+                      number_count - VALUES * at < VALUES ? number_count - VALUES * at : VALUES);
+    expect_call(what, &call);
+}
+
+static void expect_written(const char *what, uint32_t first, size_t count, size_t room)
+{
+    expect_write(what, first, count, count, room, 0, 0);
+}
+
+static void expect_unwritten(const char *what, uint32_t first, size_t count, size_t room, uint32_t refusal,
+                             uint64_t place)
+{
+    expect_write(what, first, count, count, room, refusal, place);
+}
+
+static void check_written_rooms(void)
+{
+    static const struct { size_t count, blocks; } fields[] = {
+        {1, 1}, {2, 1}, {54, 1}, {VALUES, 1}, {56, 2}, {109, 2}, {110, 2}, {FIELD, 3},
+    };
+    size_t i, count, size;
+    expect(RAZOVINTO_WRITTEN_SIZE(0) == 0, "no values take no blocks");
+    for (i = 0; i < sizeof fields / sizeof *fields; i++) {
+        count = fields[i].count;
+        size = fields[i].blocks * SIZE;
+        expect(RAZOVINTO_WRITTEN_SIZE(count) == size, "how many bytes the header says");
+        expect_written("a run just as long", 7, count, size);
+        expect_written("a run of a byte more", 7, count, size + 1);
+        expect_written("a run of a block more", 0xFFFFFFFFu - 2, count, size + SIZE);
+        expect_unwritten("a run of a byte less", 7, count, size - 1, RAZOVINTO_LIST_TOO_SHORT, 0);
+        expect_unwritten("a run of a block less", 7, count, size - SIZE, RAZOVINTO_LIST_TOO_SHORT, 0);
+        expect_unwritten("no run", 0xFFFFFFFFu, count, 0, RAZOVINTO_LIST_TOO_SHORT, 0);
+    }
+}
+
+static void check_written_numbers(void)
+{
+    const uint32_t last = 0xFFFFFFFFu;
+    expect_written("block 0", 0, FIELD, 3 * SIZE);
+    expect_written("the last number", last, VALUES, SIZE);
+    expect_written("the last two numbers", last - 1, 56, 2 * SIZE);
+    expect_written("the last three numbers", last - 2, FIELD, 3 * SIZE);
+    expect_unwritten("a number too many", last, 56, 2 * SIZE, RAZOVINTO_BLOCK_NUMBER_TOO_LARGE, 0);
+    expect_unwritten("two too many", last, FIELD, 3 * SIZE, RAZOVINTO_BLOCK_NUMBER_TOO_LARGE, 0);
+    expect_unwritten("the last of three", last - 1, FIELD, 3 * SIZE, RAZOVINTO_BLOCK_NUMBER_TOO_LARGE, 0);
+    expect_unwritten("no room comes before it", last, 56, 2 * SIZE - 1, RAZOVINTO_LIST_TOO_SHORT, 0);
+}
+
+static void check_written_lists(void)
+{
+    expect_write("a mark too few", 0, 56, 55, 2 * SIZE, RAZOVINTO_LENGTHS_DIFFER, 0);
+    expect_write("a mark too many", 0, 55, 56, SIZE, RAZOVINTO_LENGTHS_DIFFER, 0);
+    expect_write("no numbers but marks", 0xFFFFFFFFu, 0, 1, 0, RAZOVINTO_LENGTHS_DIFFER, 0);
+    expect_write("no marks, and too little room", 0xFFFFFFFFu, 56, 0, 0, RAZOVINTO_LENGTHS_DIFFER, 0);
+    expect_unwritten("no values", 0, 0, SIZE, RAZOVINTO_FIELD_EMPTY, 0);
+    expect_unwritten("no values and no run", 0xFFFFFFFFu, 0, 0, RAZOVINTO_FIELD_EMPTY, 0);
+}
+
+/* A mark that is wrong at a place, with room and with everything that is looked at later wrong too. */
+static void expect_bad_mark(const char *what, size_t place, uint8_t mark, uint64_t number)
+{
+    field[place] = number;
+    field_marks[place] = mark;
+    expect_unwritten(what, 0, FIELD, 3 * SIZE, RAZOVINTO_BAD_MARK, place);
+    expect_unwritten(what, 0xFFFFFFFFu, FIELD, 0, RAZOVINTO_BAD_MARK, place);
+    expect_write(what, 0xFFFFFFFFu, FIELD, FIELD - 1, 0, RAZOVINTO_LENGTHS_DIFFER, 0);
+}
+
+static void check_written_marks(void)
+{
+    size_t i;
+    /* From the last place to the first, so that the earliest is always the new one. */
+    expect_bad_mark("a mark of 2 at the last place", FIELD - 1, 2, 0);
+    expect_bad_mark("a mark of 255", 56, 255, 9);
+    expect_bad_mark("overflowed with a number", 55, 1, 1);
+    expect_bad_mark("overflowed with the largest number", 54, 1, MOST);
+    expect_bad_mark("a mark of 2 at the first place", 0, 2, 0);
+    for (i = 0; i < FIELD; i++) {
+        field[i] = 0;
+        field_marks[i] = 1;
+    }
+    expect_written("all overflowed", 1, FIELD, 3 * SIZE);
+    make_field();
+}
+
+/* What is written is found, and read back as it was. */
+static void check_round_trip(void)
+{
+    uint8_t run[RAZOVINTO_WRITTEN_SIZE(FIELD)], read_marks[VALUES];
+    uint64_t read_numbers[VALUES];
+    struct razovinto_written written;
+    struct razovinto_found found;
+    struct razovinto_block block;
+    size_t at;
+    field[5] = field_marks[5] = 0;
+    expect(razovinto_write(9, field, FIELD, field_marks, FIELD, run, sizeof run, RAZOVINTO_ANSWER(written)) == 0
+               && written.length == sizeof run, "a field is written");
+    expect(razovinto_search(run, sizeof run, RAZOVINTO_ANSWER(found)) == 0 && found.found == 1 && found.position == 0
+               && found.within == 54, "its first overflowed place is found");
+    for (at = 0; at < FIELD; at += VALUES) {
+        expect(razovinto_read(run + at / VALUES * SIZE, SIZE, read_numbers, VALUES, read_marks, VALUES,
+                              RAZOVINTO_ANSWER(block)) == 0 && block.number == 9 + at / VALUES, "a block is read back");
+        expect(block.count == (FIELD - at < VALUES ? FIELD - at : VALUES), "how many values it has");
+        expect(memcmp(read_numbers, field + at, block.count * sizeof *field) == 0
+                   && memcmp(read_marks, field_marks + at, block.count) == 0, "which values it has");
+    }
+    make_field();
+}
+
+static void check_writes(void)
+{
+    make_field();
+    check_written_rooms();
+    check_written_numbers();
+    check_written_lists();
+    check_written_marks();
+    check_round_trip();
+}
+
 static void check_null(void)
 {
     uint64_t answer[4];
@@ -220,6 +372,12 @@ static void check_null(void)
     expect(razovinto_read(block, SIZE, NULL, 0, NULL, 0, answer, 3) == 0 && answer[1] == 8 && answer[2] == 0,
            "a read of no values into null lists");
     expect(razovinto_read(block, SIZE, NULL, 0, NULL, 0, NULL, 0) == RAZOVINTO_LIST_TOO_SHORT, "a read, no answer");
+    expect(razovinto_write(0, NULL, 0, NULL, 0, NULL, 0, answer, 2) == RAZOVINTO_FIELD_EMPTY, "a write of null lists");
+    expect(razovinto_write(0, field, 1, field_marks, 1, NULL, 0, answer, 2) == RAZOVINTO_LIST_TOO_SHORT,
+           "a write to a null run");
+    expect(razovinto_write(0, field, 1, NULL, 0, block, SIZE, answer, 2) == RAZOVINTO_LENGTHS_DIFFER,
+           "a write without marks");
+    expect(razovinto_write(0, NULL, 0, NULL, 0, NULL, 0, NULL, 0) == RAZOVINTO_LIST_TOO_SHORT, "a write, no answer");
     expect(razovinto_search(NULL, 0, answer, 4) == 0 && answer[1] == 0, "a search of nothing");
     expect(razovinto_search(NULL, 0, NULL, 0) == RAZOVINTO_LIST_TOO_SHORT, "a search without an answer");
 }
@@ -236,5 +394,6 @@ void check_blocks(void)
     check_checks();
     check_searches();
     check_last_place();
+    check_writes();
     check_null();
 }

@@ -18,7 +18,7 @@ static size_t need_of(enum entry entry)
 {
     static const size_t needs[] = {sizeof(struct razovinto_run), sizeof(struct razovinto_shape),
                                    sizeof(struct razovinto_range), sizeof(struct razovinto_block),
-                                   sizeof(struct razovinto_found)};
+                                   sizeof(struct razovinto_written), sizeof(struct razovinto_found)};
     return needs[entry] / sizeof(uint64_t);
 }
 
@@ -27,8 +27,8 @@ struct lists { struct lent bytes, numbers, marks, answer; };
 
 static uint32_t called(const struct call *call, const struct lists *lists, size_t length)
 {
-    const void *bytes = start_of(&lists->bytes);
-    void *numbers = start_of(&lists->numbers), *marks = start_of(&lists->marks), *answer = start_of(&lists->answer);
+    void *bytes = start_of(&lists->bytes), *numbers = start_of(&lists->numbers);
+    void *marks = start_of(&lists->marks), *answer = start_of(&lists->answer);
     switch (call->entry) {
     case RUN:
         return razovinto_run(call->width, bytes, call->byte_count, numbers, call->number_count, call->allowance, answer,
@@ -40,6 +40,9 @@ static uint32_t called(const struct call *call, const struct lists *lists, size_
     case READ:
         return razovinto_read(bytes, call->byte_count, numbers, call->number_count, marks, call->mark_count, answer,
                               length);
+    case WRITE:
+        return razovinto_write(call->first, numbers, call->number_count, marks, call->mark_count, bytes,
+                               call->byte_count, answer, length);
     default:
         return razovinto_search(bytes, call->byte_count, answer, length);
     }
@@ -55,7 +58,7 @@ static void expect_once(const char *what, const struct call *call, size_t length
         lend(NULL, length * sizeof(uint64_t), guard),
     };
     size_t need = need_of(call->entry), values = length < need ? 0 : call->values;
-    size_t written = length < need ? 0 : need * sizeof(uint64_t);
+    size_t blocks = length < need ? 0 : call->written, written = length < need ? 0 : need * sizeof(uint64_t);
     char where[256];
     snprintf(where, sizeof where, "%s, with %zu numbers for the answer, %zu guard bytes, lists of bytes %zu off", what,
              length, guard, shift);
@@ -66,8 +69,10 @@ static void expect_once(const char *what, const struct call *call, size_t length
     if (values != 0 && (memcmp(start_of(&lists.numbers), call->values_numbers, values * sizeof(uint64_t)) != 0
                         || memcmp(start_of(&lists.marks), call->values_marks, values) != 0))
         fail(where, "other values are written");
-    if (!stayed(&lists.bytes, 0) || !stayed(&lists.numbers, values * sizeof(uint64_t)) || !stayed(&lists.marks, values)
-        || !stayed(&lists.answer, written))
+    if (blocks != 0 && memcmp(start_of(&lists.bytes), call->blocks, blocks) != 0)
+        fail(where, "other blocks are written");
+    if (!stayed(&lists.bytes, blocks) || !stayed(&lists.numbers, values * sizeof(uint64_t))
+        || !stayed(&lists.marks, values) || !stayed(&lists.answer, written))
         fail(where, "a byte changed that must stay");
     take_back(&lists.bytes);
     take_back(&lists.numbers);

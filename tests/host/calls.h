@@ -6,13 +6,14 @@
 
 #define MOST UINT64_MAX
 
-enum entry { RUN, SHAPE, SCAN, READ, SEARCH };
+enum entry { RUN, SHAPE, SCAN, READ, WRITE, SEARCH };
 
 /* What an entry is given, and what it must give. */
 struct call {
     enum entry entry;
     uint64_t width, allowance; /* of a recipe */
-    const uint8_t *bytes;      /* a recipe's kinds, a block, or a run of blocks */
+    uint32_t first;            /* of a write: the first block's number */
+    const uint8_t *bytes;      /* a recipe's kinds, a block, or a run of blocks; of a write as below */
     size_t byte_count;
     const uint64_t *numbers; /* of a recipe or a field; of a read NULL, and only their count is given */
     size_t number_count;
@@ -23,6 +24,8 @@ struct call {
     size_t values;      /* of a read: how many values it must write to the two lists, */
     const uint64_t *values_numbers; /* which these are */
     const uint8_t *values_marks;
+    size_t written;        /* of a write: how many bytes it must write to the run, */
+    const uint8_t *blocks; /* which these are */
 };
 
 /* Ends the test with 1, saying what failed. */

@@ -29,9 +29,23 @@ static bool answers()
     return razovinto_run(8, kinds, 3, items, 3, 9, RAZOVINTO_ANSWER(ran)) == 0 && ran.overflowed == 1 && ran.steps == 3;
 }
 
+static bool blocks()
+{
+    const std::uint64_t numbers[] = {5, 0, 9};
+    const std::uint8_t marks[] = {0, 1, 0};
+    std::uint8_t run[RAZOVINTO_WRITTEN_SIZE(3)];
+    razovinto_written written;
+    razovinto_found found;
+    if (razovinto_write(7, numbers, 3, marks, 3, run, sizeof run, RAZOVINTO_ANSWER(written)) != 0)
+        return false;
+    if (written.length != sizeof run || written.length != RAZOVINTO_BLOCK_SIZE)
+        return false;
+    return razovinto_search(run, sizeof run, RAZOVINTO_ANSWER(found)) == 0 && found.found == 1 && found.within == 1;
+}
+
 int main()
 {
     if (std::strcmp(razovinto_refusal_text(RAZOVINTO_OVERFLOWED), "overflowed operand") != 0)
         return 1;
-    return six() && answers() ? 0 : 1;
+    return six() && answers() && blocks() ? 0 : 1;
 }

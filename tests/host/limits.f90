@@ -23,6 +23,7 @@ program limits
     call check_run()
     call check_stopped()
     call check_blocks()
+    call check_write()
     call check_search()
     print '(a)', 'limits: layout, power_fits, signed numbers, fields, recipes and blocks are as they must be'
 
@@ -66,11 +67,13 @@ contains
         type(razovinto_run_answer) :: run
         type(razovinto_scan_answer) :: scan
         type(razovinto_read_answer) :: read
+        type(razovinto_write_answer) :: write
         type(razovinto_search_answer) :: search
         call expect(storage_size(shape) == 64 * razovinto_shape_length, 'the shape has its numbers')
         call expect(storage_size(run) == 64 * razovinto_run_length, 'the run has its numbers')
         call expect(storage_size(scan) == 64 * razovinto_scan_length, 'the range has its numbers')
         call expect(storage_size(read) == 64 * razovinto_read_length, "the block's head has its numbers")
+        call expect(storage_size(write) == 64 * razovinto_write_length, 'what is written has its numbers')
         call expect(storage_size(search) == 64 * razovinto_search_length, 'what is found has its numbers')
         call expect(razovinto_block_size == 512 .and. razovinto_block_values == 55, 'the sizes of a block')
         shape = transfer(junk, shape)
@@ -79,6 +82,8 @@ contains
         call expect(all([scan%place, scan%least, scan%greatest, scan%width] == junk(:4)), "the order of a range's")
         read = transfer(junk, read)
         call expect(all([read%place, read%number, read%count] == junk(:3)), "the order of a head's")
+        write = transfer(junk, write)
+        call expect(all([write%place, write%length] == junk(:2)), 'the order of what is written')
         search = transfer(junk, search)
         call expect(all([search%place, search%found, search%position, search%within] == junk(:4)), &
             'the order of what is found')
@@ -387,6 +392,70 @@ contains
         end do
         code = merge(0_c_int32_t, refusal, refusal == razovinto_list_too_short)
         call expect(razovinto_sound(bytes, size(bytes, kind=c_size_t)) == code, 'whether a block is sound')
+    end subroutine
+
+    ! Fields whose numbers are those of `made`, in two blocks of 55 values and a third of one.
+    subroutine check_write()
+        integer(c_int64_t) :: numbers(111)
+        integer(c_int8_t) :: marks(111)
+        integer, parameter :: counts(7) = [1, 54, 55, 56, 109, 110, 111], sizes(7) = [1, 1, 1, 2, 2, 2, 3] * 512
+        integer :: place
+        do place = 1, 111
+            marks(place) = merge(1_c_int8_t, 0_c_int8_t, modulo(place - 1, 55) + 1 == 6)
+            numbers(place) = merge(0, 1001 + modulo(place - 1, 55), marks(place) == 1)
+        end do
+        do place = 1, size(counts)
+            associate (count => counts(place), bytes => sizes(place))
+                call expect(razovinto_written_size(int(count, c_size_t)) == bytes, 'how many bytes the module says')
+                call write(7_c_int32_t, numbers(:count), marks(:count), bytes, 0, 0)
+                call write(-3_c_int32_t, numbers(:count), marks(:count), bytes + 1, 0, 0)
+                call write(-3_c_int32_t, numbers(:count), marks(:count), bytes - 1, razovinto_list_too_short, 0)
+                call write(-1_c_int32_t, numbers(:count), marks(:count), 0, razovinto_list_too_short, 0)
+            end associate
+        end do
+        call write(-1_c_int32_t, numbers(:55), marks(:55), 512, 0, 0)
+        call write(-2_c_int32_t, numbers(:56), marks(:56), 1024, 0, 0)
+        call write(-1_c_int32_t, numbers(:56), marks(:56), 1024, razovinto_block_number_too_large, 0)
+        call write(-2_c_int32_t, numbers, marks, 1536, razovinto_block_number_too_large, 0)
+        call write(0_c_int32_t, numbers(:0), marks(:0), 512, razovinto_field_empty, 0)
+        call write(-1_c_int32_t, numbers(:56), marks(:55), 0, razovinto_lengths_differ, 0)
+        call write(0_c_int32_t, numbers(:0), marks(:1), 512, razovinto_lengths_differ, 0)
+        marks(111) = -1
+        call write(0_c_int32_t, numbers, marks, 1536, razovinto_bad_mark, 110)
+        numbers(61) = 1
+        call write(-1_c_int32_t, numbers, marks, 0, razovinto_bad_mark, 60)
+        marks(1) = 2
+        call write(-1_c_int32_t, numbers, marks, 1536, razovinto_bad_mark, 0)
+    end subroutine
+
+    ! A write to a run with guards before and after.
+    subroutine write(first, numbers, marks, room, refusal, place)
+        integer(c_int32_t), intent(in) :: first, refusal
+        integer(c_int64_t), intent(in) :: numbers(:)
+        integer(c_int8_t), intent(in) :: marks(:)
+        integer, intent(in) :: room, place
+        type(razovinto_write_answer) :: answers(3)
+        integer(c_int8_t) :: bytes(0:room + 1), expected(0:room + 1)
+        integer(c_int32_t) :: code
+        integer(c_size_t) :: length
+        integer :: blocks, at
+        blocks = merge((size(numbers) + 54) / 55, 0, refusal == 0)
+        do length = 0, razovinto_write_length + 1
+            bytes = 77
+            expected = bytes
+            if (length >= razovinto_write_length) then
+                do at = 0, blocks - 1
+                    expected(512 * at + 1:512 * at + 512) = &
+                        made(iand(int(first, c_int64_t), 4294967295_c_int64_t) + at, min(55, size(numbers) - 55 * at))
+                end do
+            end if
+            answers = transfer(junk, answers, 3)
+            code = razovinto_write(first, numbers, size(numbers, kind=c_size_t), marks, size(marks, kind=c_size_t), &
+                bytes(1:), int(room, c_size_t), answers(2), length)
+            call expect(code == wanted(refusal, length, razovinto_write_length), 'what a write returns')
+            call expect_answer(transfer(answers, junk), int([place, 512 * blocks], c_int64_t), length, 'a write')
+            call expect(all(bytes == expected), 'the bytes of a write')
+        end do
     end subroutine
 
     subroutine check_search()

@@ -12,9 +12,10 @@
 
 #include <inttypes.h>
 
-enum { LIST = 4096, RUN = 65536, LINE = (2 * LIST + 8) * 21 };
+/* The longest line is that of row 9, with four characters for each byte of its run. */
+enum { LIST = 4096, FIELD = 8192, RUN = 65536, LINE = 4 * RUN + 100 };
 static const uint64_t number_before = 7777777;
-static const uint8_t mark_before = 9;
+static const uint8_t mark_before = 9, byte_before = 170;
 
 static const char *path;
 static FILE *cases;
@@ -23,11 +24,12 @@ static unsigned long case_number;
 /* A case as it was read. */
 static struct {
     int row, kind;
+    uint32_t first;
     uint64_t width, allowance, left, right;
     size_t byte_count, number_count, mark_count;
     uint8_t bytes[RUN];
-    uint64_t numbers[LIST];
-    uint8_t marks[LIST];
+    uint64_t numbers[FIELD];
+    uint8_t marks[FIELD];
 } given;
 
 static char line[LINE];
@@ -131,6 +133,19 @@ static void take_signed(void)
         stop(2, "neither quotient nor remainder");
 }
 
+static void take_writing(void)
+{
+    if (take(1) != 1)
+        stop(2, "no entry has this edition");
+    given.first = (uint32_t)take(4);
+    given.number_count = take_count(2, FIELD);
+    given.mark_count = take_count(2, FIELD);
+    given.byte_count = take_count(4, RUN);
+    take_numbers();
+    take_bytes(given.marks, given.mark_count);
+    memset(given.bytes, byte_before, given.byte_count);
+}
+
 /* Reads a case; 0 at the end. */
 static int take_case(void)
 {
@@ -161,6 +176,9 @@ static int take_case(void)
     case 7:
         given.left = take(8);
         given.right = take(8);
+        break;
+    case 9:
+        take_writing();
         break;
     default:
         stop(2, "no entry for its first byte");
@@ -372,6 +390,28 @@ static void call_signed(size_t guard)
     back(&result, code ? 0 : sizeof number);
 }
 
+static void call_write(size_t guard)
+{
+    struct lent numbers = lend(given.numbers, given.number_count * 8, guard);
+    struct lent marks = lend_bytes(given.marks, given.mark_count, guard);
+    struct lent run = lend_bytes(given.bytes, given.byte_count, guard);
+    struct lent lent = lend(NULL, sizeof(struct razovinto_written), guard);
+    struct razovinto_written written;
+    size_t i;
+    put(razovinto_write(given.first, start_of(&numbers), given.number_count, start_of(&marks), given.mark_count,
+                        start_of(&run), given.byte_count, start_of(&lent), sizeof written / 8));
+    answer_back(&lent, &written);
+    put(written.place);
+    put(written.length);
+    for (i = 0; i < given.byte_count; i++)
+        put(((uint8_t *)start_of(&run))[i]);
+    if (written.length > given.byte_count)
+        stop(1, "a length above the room that there is");
+    back(&numbers, 0);
+    back(&marks, 0);
+    back(&run, written.length);
+}
+
 /* The case's line, from lists between guards of so many bytes. */
 static void call(size_t guard)
 {
@@ -394,6 +434,9 @@ static void call(size_t guard)
         break;
     case 6:
         call_signed(guard);
+        break;
+    case 9:
+        call_write(guard);
         break;
     default:
         put(razovinto_power_fits(given.left, given.right));

@@ -12,16 +12,18 @@ program replay
     implicit none
 
     ! How many guard elements there are on each side, and the most that a list of a case has.
-    integer, parameter :: guard = 16, longest_list = 4096, longest_run = 65536
+    integer, parameter :: guard = 16, longest_list = 4096, longest_field = 8192, longest_run = 65536
     integer(c_int64_t), parameter :: number_before = 7777777
-    integer(c_int8_t), parameter :: mark_before = 9
+    ! The second is 170, as its binary digits.
+    integer(c_int8_t), parameter :: mark_before = 9, byte_before = -86
     ! What three answers have before a call, of which the middle one is lent.
     integer :: i
     integer(c_int64_t), parameter :: junk(150) = [(1000003_c_int64_t * i, i = 1, 150)]
 
     integer :: cases, case_number
     character(len=:), allocatable :: path
-    character(len=(2 * longest_list + 8) * 21) :: line
+    ! The longest line is that of row 9, with four characters for each byte of its run.
+    character(len=4 * longest_run + 100) :: line
     integer :: line_length
 
     call open_cases()
@@ -214,6 +216,8 @@ contains
             call call_signed()
         case (7)
             call call_power_fits()
+        case (9)
+            call call_write()
         case default
             call halt('no entry for its first byte', .true.)
         end select
@@ -359,6 +363,50 @@ contains
             call put_byte(marks(at))
         end do
     end subroutine
+
+    subroutine call_write()
+        integer(c_int32_t) :: first, refusal
+        integer(c_size_t) :: byte_count, number_count, mark_count, length
+        integer(c_int8_t), allocatable :: bytes(:), bytes_before(:), marks(:), marks_before(:)
+        integer(c_int64_t), allocatable :: numbers(:), numbers_before(:)
+        type(razovinto_write_answer) :: written(3)
+        integer :: at
+        if (taken(1) /= 1) call halt('no entry has this edition', .true.)
+        first = as_32_digits(taken(4))
+        number_count = taken_count(2, longest_field)
+        mark_count = taken_count(2, longest_field)
+        byte_count = taken_count(4, longest_run)
+        call take_number_list(number_count, numbers)
+        call take_byte_list(mark_count, marks)
+        call lend_bytes(byte_count, byte_before, bytes)
+        bytes_before = bytes
+        numbers_before = numbers
+        marks_before = marks
+        written = transfer(junk, written, 3)
+        refusal = razovinto_write(first, numbers(1), number_count, marks(1), mark_count, bytes(1), byte_count, &
+            written(2), razovinto_write_length)
+        length = written(2)%length
+        if (length > byte_count) call halt('a length above the room that there is', .false.)
+        if (refusal == 0 .and. length /= razovinto_written_size(number_count)) &
+            call halt("another length than the module says", .false.)
+        call expect(all(numbers == numbers_before) .and. all(marks == marks_before))
+        call expect_neighbours(transfer(written, junk))
+        call expect(all(bytes(:0) == bytes_before(:0)))
+        call expect(all(bytes(length + 1:) == bytes_before(length + 1:)))
+        call put_refusal(refusal)
+        call put(written(2)%place)
+        call put(written(2)%length)
+        do at = 1, int(byte_count)
+            call put_byte(bytes(at))
+        end do
+    end subroutine
+
+    ! A number below 2**32 as an integer that has its binary digits.
+    pure function as_32_digits(number) result(digits)
+        integer(c_int64_t), intent(in) :: number
+        integer(c_int32_t) :: digits
+        digits = int(merge(number - 4294967296_c_int64_t, number, number > 2147483647_c_int64_t), c_int32_t)
+    end function
 
     subroutine call_search()
         integer(c_size_t) :: byte_count

@@ -3,10 +3,10 @@
 
     tests/python/agree.py [--seed N]
 
-The cases are those of tests/second/fresh.py that the module has a function for: runs, scans, reads, searches, single
-operations on fitting numbers of 64 bits, signed ones of 64 bits, and power-fits. Each list is given in some form: a
-list, bytes, an array, memory that is only to be read, memory within a larger array, and with numpy an array of the
-right type, of another type, or with gaps. Ends with 1 at the first case that differs.
+The cases are those of tests/second/fresh.py that the module has a function for: runs, scans, reads, searches, writes,
+single operations on fitting numbers of 64 bits, signed ones of 64 bits, and power-fits. Each list is given in some
+form: a list, bytes, an array, memory that is only to be read, memory within a larger array, and with numpy an array of
+the right type, of another type, or with gaps. Ends with 1 at the first case that differs.
 """
 import argparse
 import sys
@@ -29,7 +29,7 @@ except ImportError:
     numpy = None
 
 # How many random cases of each row.
-RANDOM = (3000, 1500, 1500, 500, 3000, 2000, 1000, 0)
+RANDOM = (3000, 1500, 1500, 500, 3000, 2000, 1000, 0, 600)
 GUARD = 3
 
 
@@ -132,17 +132,23 @@ def scan_line(*field):
         return rows.line([refused.number, refused.place, 0, 0, 0])
 
 
+def as_one_thing(case):
+    """A case's field as a Field; where its marks are right also as one list, and as a masked array."""
+    yield razovinto.Field(case.numbers, case.marks)
+    pairs = list(zip(case.numbers, case.marks))
+    if len(case.numbers) == len(case.marks) and all(model.place_fault(*each) != model.MARK for each in pairs):
+        yield [OVERFLOWED if mark else number for number, mark in pairs]
+        if numpy:
+            # What stands under a mask doesn't count.
+            under = [9 if mark else number for number, mark in pairs]
+            yield numpy.ma.MaskedArray(numpy.array(under, "u8"), mask=list(case.marks))
+
+
 def scan_lines(dice, case):
     wanted = case.line()
     yield wanted, scan_line(dice.pick(NUMBER_FORMS)(case.numbers), dice.pick(BYTE_FORMS)(case.marks))
-    yield wanted, scan_line(razovinto.Field(case.numbers, case.marks))
-    if len(case.numbers) == len(case.marks) and model.MARK != int(wanted.split()[0]):
-        if all(model.place_fault(number, mark) != model.MARK for number, mark in zip(case.numbers, case.marks)):
-            yield wanted, scan_line([OVERFLOWED if mark else number for number, mark in zip(case.numbers, case.marks)])
-            if numpy:
-                # What stands under a mask doesn't count.
-                under = [9 if mark else number for number, mark in zip(case.numbers, case.marks)]
-                yield wanted, scan_line(numpy.ma.MaskedArray(numpy.array(under, "u8"), mask=list(case.marks)))
+    for field in as_one_thing(case):
+        yield wanted, scan_line(field)
 
 
 def read_line(dice, case):
@@ -229,6 +235,46 @@ def search_lines(dice, case):
     yield wanted, read_run_line(dice.pick(BYTE_FORMS)(case.run), True)
 
 
+def write_line(dice, case, *field):
+    """The line of a write to a run that has guards on both sides, which must stay."""
+    around = bytearray([5] * GUARD + [rows.BYTE_BEFORE] * case.room + [5] * GUARD)
+    if numpy and dice.chance(50):
+        around = numpy.array(around, "u1")
+    room = slice(GUARD, GUARD + case.room)
+    try:
+        head = [0, 0, razovinto.write(case.first, *field, run=memoryview(around)[room])]
+    except Refused as refused:
+        head = [refused.number, refused.place, 0]
+    assert list(around[:GUARD]) == list(around[-GUARD:]) == [5] * GUARD, "a guard was written"
+    return rows.line([*head, *around[room]])
+
+
+def own_write_line(first, *field):
+    try:
+        return rows.line([0, 0, *razovinto.write(first, *field)])
+    except Refused as refused:
+        return rows.line([refused.number, refused.place])
+
+
+def write_lines(dice, case):
+    def two_lists():
+        return dice.pick(NUMBER_FORMS)(case.numbers), dice.pick(BYTE_FORMS)(case.marks)
+
+    wanted = case.line()
+    code, place, run = model.write(case.first, case.numbers, case.marks, cases.bytes_for(len(case.numbers)))
+    yield wanted, write_line(dice, case, *two_lists())
+    yield rows.line([code, place, *run]), own_write_line(case.first, *two_lists())
+    for field in as_one_thing(case):
+        yield wanted, write_line(dice, case, field)
+    if code == 0:
+        values = [OVERFLOWED if mark else number for number, mark in zip(case.numbers, case.marks)]
+        written = razovinto.write(case.first, values)
+        plain = dice.chance(50)
+        yield values_line(0, 0, 0, values), read_run_line(written, plain)
+        again = razovinto.write(case.first, razovinto.read_run(written, plain))
+        yield rows.line([0, 0, *run]), rows.line([0, 0, *again])
+
+
 def operation_lines(_, case):
     try:
         value = getattr(razovinto, model.KIND_WORDS[case.kind])(case.left, case.right)
@@ -259,6 +305,7 @@ LINES = {
     rows.Operation: operation_lines,
     rows.Signed: signed_lines,
     rows.Fit: fit_lines,
+    rows.Write: write_lines,
 }
 
 

@@ -473,6 +473,139 @@ class Blocks(Case):
             self.wrong(TypeError, "numbers must be a list that can be written", razovinto.read, self.block, wrong)
 
 
+def run_of(first, *values):
+    """The model's run of a field."""
+    field = [0 if value is OVERFLOWED else value for value in values], bytes(value is OVERFLOWED for value in values)
+    return model.write(first, *field, 512 * len(values))[2]
+
+
+class Writing(Case):
+    def test_forms(self):
+        run = block_of(7, 5, OVERFLOWED, MOST)
+        for field in (
+            ([5, OVERFLOWED, MOST],),
+            (Field([5, 0, MOST], b"\0\1\0"),),
+            ([5, 0, MOST], [0, 1, 0]),
+            (array("Q", [5, 0, MOST]), bytearray(b"\0\1\0")),
+            (memoryview(array("Q", [9, 5, 0, MOST]))[1:], memoryview(b"\1\0\1\0")[1:]),
+            (razovinto.read_run(run),),
+            (razovinto.read_run(run, plain=True),),
+        ):
+            written = razovinto.write(7, *field)
+            self.assertIs(type(written), bytearray)
+            self.assertEqual(written, run)
+        self.assertEqual(razovinto.write(0, array("Q", [3])), block_of(0, 3))
+        self.assertEqual(razovinto.write(0, range(3)), block_of(0, 0, 1, 2))
+        self.assertEqual(razovinto.write(first=1, numbers=[3], marks=[0]), block_of(1, 3))
+
+    def test_lengths(self):
+        for n in (1, 54, 55, 56, 109, 110, 111, 1000):
+            values = [OVERFLOWED if i % 9 == 4 else MOST - i for i in range(n)]
+            written = razovinto.write(3, values)
+            self.assertEqual(written, run_of(3, *values))
+            self.assertEqual(razovinto.read_run(written, plain=True).values(), values)
+        self.assertEqual(razovinto.search(razovinto.write(0, [1] * 60 + [OVERFLOWED])), Found(1, 5))
+
+    def test_sample(self):
+        """The sample's blocks are numbered from 0 on and filled as written ones are."""
+        run = (ROOT / "examples" / "mountain.blocks").read_bytes()
+        self.assertEqual(razovinto.write(0, razovinto.read_run(run)), run)
+
+    def test_lent_run(self):
+        wanted = run_of(9, *range(56))
+        for room in (1024, 1025, 1536):
+            for run in (bytearray([77]) * room, array("B", [77] * room), memoryview(bytearray([77]) * room)):
+                self.assertEqual(razovinto.write(9, range(56), run=run), 1024)
+                self.assertEqual(bytes(run), wanted + bytes([77]) * (room - 1024))
+        around = bytearray([77]) * 1034
+        self.assertEqual(razovinto.write(9, range(56), None, memoryview(around)[5:-5]), 1024)
+        self.assertEqual(around, bytes([77]) * 5 + wanted + bytes([77]) * 5)
+
+    def test_refusals(self):
+        last = 2**32 - 1
+        for number, place, first, numbers, marks, room in (
+            (6, 0, 0, [1, 2], [0], 512),
+            (6, 0, 0, [], [0], 512),
+            (6, 0, last, [1] * 56, [2], 0),
+            (14, 0, last, [], [], 0),
+            (15, 1, 0, [1, 2, 0], [0, 2, 1], 512),
+            (15, 1, last, [1, 2] * 28, [0, 1] * 28, 0),
+            (15, 55, 0, [0] * 56, [1] * 55 + [255], 1024),
+            (19, 0, 0, [1], [0], 511),
+            (19, 0, last, [1] * 56, [0] * 56, 1023),
+            (21, 0, last, [1] * 56, [0] * 56, 1024),
+            (21, 0, last - 1, [1] * 111, [0] * 111, 1536),
+        ):
+            run = bytearray([77]) * room
+            self.refused(number, place, razovinto.write, first, numbers, marks, run)
+            self.assertEqual(run, bytes([77]) * room)
+            if number != 19:
+                self.refused(number, place, razovinto.write, first, numbers, marks)
+        self.refused(14, 0, razovinto.write, 0, [])
+        self.assertEqual(razovinto.write(last, [1] * 55), block_of(last, *[1] * 55))
+        self.assertEqual(len(razovinto.write(last - 1, [OVERFLOWED] * 56)), 1024)
+
+    def test_wrong_numbers(self):
+        self.wrong(OverflowError, "first is -1, and must be from 0 to 4294967295", razovinto.write, -1, [1])
+        self.wrong(OverflowError, "first is 4294967296", razovinto.write, 2**32, [1])
+        self.wrong(TypeError, "first is [1]", razovinto.write, [1], 0)
+        self.wrong(TypeError, "first is overflowed", razovinto.write, OVERFLOWED, [1])
+        self.wrong(OverflowError, "numbers[1] is 18446744073709551616", razovinto.write, 0, [1, MOST + 1])
+        self.wrong(OverflowError, "marks[0] is 256", razovinto.write, 0, [1], [256])
+        self.wrong(TypeError, "numbers is of the type int", razovinto.write, 0, 5)
+        self.wrong(TypeError, "numbers[0] is overflowed", razovinto.write, 0, [OVERFLOWED], [1])
+
+    def test_runs_that_cannot_be_written(self):
+        for run in (
+            bytes(512),
+            [0] * 512,
+            memoryview(bytearray(512)).toreadonly(),
+            memoryview(bytearray(1024))[::2],
+            array("b", [0] * 512),
+            array("Q", [0] * 64),
+            memoryview(bytearray(512)).cast("B", (2, 256)),
+            512,
+        ):
+            self.wrong(TypeError, "run must be a list that can be written", razovinto.write, 0, [1], [0], run)
+
+    def test_shared_memory(self):
+        memory = bytearray(16) + bytearray(512)
+        whole = memoryview(memory)
+        numbers, marks, before = whole[:16].cast("Q"), whole[8:10], bytes(memory)
+        self.wrong(ValueError, "numbers and run share memory", razovinto.write, 0, numbers, b"\0\0", whole[15:])
+        self.wrong(ValueError, "marks and run share memory", razovinto.write, 0, [1, 2], marks, whole[9:])
+        self.wrong(ValueError, "share memory", razovinto.write, 0, whole[512:].cast("Q"), b"\0\0", whole[:520])
+        self.assertEqual(memory, before)
+        # Lists that are only read may be the same memory.
+        self.assertEqual(razovinto.write(0, numbers, marks, whole[16:]), 512)
+        self.assertEqual(memory[16:], block_of(0, 0, 0))
+
+    @with_numpy
+    def test_numpy(self):
+        field = numpy.arange(60, dtype="u8").reshape(6, 10)
+        wanted = run_of(1, *range(60))
+        for letter in ("u8", "i4", ">u8", object):
+            self.assertEqual(razovinto.write(1, field.astype(letter)), wanted)
+        self.assertEqual(razovinto.write(1, numpy.asfortranarray(field)), wanted)
+        self.assertEqual(razovinto.write(1, field, numpy.zeros((6, 10), bool)), wanted)
+        self.assertEqual(razovinto.write(numpy.uint32(1), field[:, ::2]), run_of(1, *range(0, 60, 2)))
+        self.wrong(TypeError, "numbers is an array of float64", razovinto.write, 1, field.astype("f8"))
+        run = numpy.full(1200, 77, "u1")
+        self.assertEqual(razovinto.write(1, field, run=run), 1024)
+        self.assertEqual(run.tobytes(), wanted + bytes([77]) * 176)
+        self.wrong(TypeError, "run must be a list", razovinto.write, 1, field, None, numpy.zeros((2, 512), "u1"))
+
+    @with_numpy
+    def test_masked(self):
+        masked = numpy.ma.MaskedArray(numpy.arange(6, dtype="u8") + 1, mask=[0, 0, 1, 0, 0, 1])
+        wanted = run_of(2, 1, 2, OVERFLOWED, 4, 5, OVERFLOWED)
+        self.assertEqual(razovinto.write(2, masked), wanted)
+        self.assertEqual(razovinto.write(2, masked.reshape(2, 3)), wanted)
+        self.assertEqual(razovinto.write(2, razovinto.read_run(wanted)), wanted)
+        self.assertEqual(razovinto.write(2, numpy.ma.MaskedArray(numpy.array([3], "u8"))), block_of(2, 3))
+        self.wrong(TypeError, "numbers is a masked array", razovinto.write, 2, masked, [0] * 6)
+
+
 class Lending(Case):
     def address(self, given, items=None):
         with razovinto._lend("given", given, items or razovinto._NUMBERS) as lent:
@@ -539,6 +672,12 @@ class Lending(Case):
             self.assertRaises(Refused, razovinto.sound, text)
             self.assertRaises(Refused, razovinto.search, text)
             self.assertRaises(Refused, razovinto.run, 8, (memory, []), 9)
+            razovinto.write(0, [1], None, memory)
+            self.assertRaises(Refused, razovinto.write, 0, [1] * 56, marks, memory)
+            self.assertRaises(Refused, razovinto.write, 0, [], b"", memory)
+            self.assertRaises(TypeError, razovinto.write, 0, memory, 5)
+            self.assertRaises(TypeError, razovinto.write, 0, [1], [0], text)
+            self.assertRaises(ValueError, razovinto.write, 0, [1], memory, memory)
         self.assertEqual((sys.getrefcount(text), sys.getrefcount(memory)), before)
         memory.append(0)  # would be a BufferError if it were still lent
         marks.append(0)

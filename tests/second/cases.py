@@ -5,7 +5,7 @@ from math import isqrt
 
 import model
 from model import LITERAL, LOGARITHM, OVERFLOWED, POWER, PRODUCT, QUOTIENT, SUM, WIDTHS, limit
-from rows import LIST, RUN, Fit, Operation, Plain, Read, Run, Scan, Search, Signed
+from rows import FIELD, LIST, RUN, Fit, Operation, Plain, Read, Run, Scan, Search, Signed, Write
 
 MOST = limit(64)
 ODD_WIDTHS = (0, 7, 8, 9, 16, 32, 63, 64, 255)
@@ -609,7 +609,125 @@ def some_search(dice):
     return Search(run[: dice.below(len(run) + 1)] if dice.chance(4) else run)
 
 
-SOME = (some_run, some_scan, some_read, some_search, some_operation, some_signed, some_fit, some_plain)
+# Fields into blocks
+
+# Around the values of one block and of two.
+WRITTEN_LENGTHS = (0, 1, 2, 54, 55, 56, 109, 110, 111)
+LAST_NUMBER = limit(32)
+# What a writer refuses at a place: its number and mark.
+BAD_MARKS = tuple((number, mark) for number, mark in PLACE_FAULTS if model.place_fault(number, mark) == model.MARK)
+
+
+def bytes_for(count):
+    """As many bytes as the blocks of so many values have."""
+    return model.BLOCK * model.blocks_for(count)
+
+
+def writing(first, values, more=0, faults=()):
+    """A field of checked values with faults, and a run that has so many bytes more than the field's blocks, or less."""
+    numbers, marks = [value or 0 for value in values], bytearray(value is OVERFLOWED for value in values)
+    for place, (number, mark) in faults:
+        numbers[place], marks[place] = number, mark
+    return Write(first, tuple(numbers), bytes(marks), max(0, bytes_for(len(values)) + more))
+
+
+def some_overflowed(count):
+    return [OVERFLOWED if i % 9 == 4 else 1000 + i for i in range(count)]
+
+
+def written_tables():
+    """Block 0 with the one value 3, and with one overflowed value; the largest of all, and nothing but overflowed."""
+    yield writing(0, [3])
+    yield writing(0, [OVERFLOWED])
+    yield writing(0, [0])
+    yield writing(LAST_NUMBER, [MOST] * 55)
+    yield writing(LAST_NUMBER - 1, [MOST] * 110)
+    yield writing(0, [OVERFLOWED] * 56)
+
+
+def written_rooms():
+    """Fields of each telling length into a run that is shorter, just as long, and longer."""
+    for n in WRITTEN_LENGTHS:
+        for more in (-model.BLOCK, -1, 0, 1, model.BLOCK):
+            if n or more >= 0:
+                yield writing(7, some_overflowed(n), more)
+        yield Write(7, tuple(range(n)), bytes(n), 0)
+
+
+def written_numbers():
+    """First numbers up to the last, with one block to three; and with too little room, which comes first."""
+    for first in (0, 1, 255, 256, 2**16, 2**31, LAST_NUMBER - 2, LAST_NUMBER - 1, LAST_NUMBER):
+        for n in (1, 55, 56, 110, 111):
+            yield writing(first, some_overflowed(n))
+            if first + n > LAST_NUMBER:
+                yield writing(first, some_overflowed(n), -1)
+
+
+def written_overflows():
+    """One overflowed value at each telling place of a field in three blocks."""
+    for place in (0, 1, 53, 54, 55, 56, 108, 109, 110):
+        yield writing(3, [OVERFLOWED if i == place else MOST - i for i in range(111)])
+
+
+def written_faults():
+    """Each bad mark at each telling place, and each pair of them; with too little room and too large a number too."""
+    for n, places in ((5, (0, 2, 4)), (56, (0, 54, 55))):
+        faults = [(place, fault) for place in places for fault in BAD_MARKS]
+        for first in faults:
+            yield writing(1, some_overflowed(n), 0, [first])
+            yield writing(LAST_NUMBER, some_overflowed(n), -bytes_for(n), [first])
+            for second in faults if n == 5 else ():
+                yield writing(1, some_overflowed(n), -bytes_for(n), [first, second])
+
+
+def written_lists():
+    """Lists that differ in length or are empty, alone and with every fault that comes after."""
+    for n, k in ((0, 1), (1, 0), (1, 2), (55, 54), (55, 56), (56, 55), (0, 0)):
+        for first in (0, LAST_NUMBER):
+            for room in (0, 512):
+                yield Write(first, (5,) * n, bytes(k), room)
+                yield Write(first, (5,) * n, bytes([2]) * k, room)
+
+
+def longest_writings():
+    """The longest run and the longest lists that a case may have, what fits them and what is one past."""
+    most = RUN // model.BLOCK * model.VALUES
+    yield writing(LAST_NUMBER - 127, [OVERFLOWED if i % 3 else i for i in range(most)])
+    yield writing(LAST_NUMBER - 126, [MOST - i for i in range(most)])
+    yield writing(0, [MOST - i for i in range(most)])
+    yield Write(0, (5,), bytes(1), RUN)
+    yield Write(0, (1,) * (most + 1), bytes(most + 1), RUN)
+    yield Write(0, tuple(range(FIELD)), bytes(FIELD), 3)
+    yield Write(0, tuple(range(FIELD)), bytes(FIELD - 1) + b"\2", 3)
+    yield Write(0, (1,) * FIELD, bytes(FIELD - 1), 3)
+    yield Write(0, (1,) * (FIELD - 1), bytes(FIELD), 3)
+
+
+def some_write(dice):
+    """Mostly a field that is written; some have bad marks, lists that differ in length, or any bytes as marks."""
+    n = dice.pick(WRITTEN_LENGTHS) if dice.chance(30) else dice.below(dice.pick((4, 60, 60, 120, 400)))
+    first = dice.bits(32) >> dice.below(32) if dice.chance(75) else LAST_NUMBER - dice.below(4)
+    more = dice.pick((0, 0, 0, 1, 511, 512, 700)) if dice.chance(88) else -dice.between(1, 600)
+    values = some_values(dice, n, dice.pick((0, 0, 15, 60, 100)))
+    wrong = dice.between(1, 3) if n and dice.chance(12) else 0
+    case = writing(first, values, more, [(dice.below(n), dice.pick(BAD_MARKS)) for _ in range(wrong)])
+    way = dice.below(25)
+    if way == 0:
+        return case._replace(marks=bytes(max(0, n + dice.pick((-1, 1)))))
+    return case._replace(marks=dice.some_bytes(n)) if way == 1 else case
+
+
+SOME = (
+    some_run,
+    some_scan,
+    some_read,
+    some_search,
+    some_operation,
+    some_signed,
+    some_fit,
+    some_plain,
+    some_write,
+)
 
 
 # Inputs that are no list of cases
@@ -625,7 +743,7 @@ def malformed():
 
 
 def unknown_rows():
-    return ((f"a case whose first byte is {byte}", bytes([byte])) for byte in (0, 9, 10, 127, 128, 255))
+    return ((f"a case whose first byte is {byte}", bytes([byte])) for byte in (0, 10, 11, 127, 128, 255))
 
 
 def cut_short():
@@ -639,6 +757,7 @@ def cut_short():
         Signed(8, 0, -7, 2),
         Fit(2, 3),
         Plain(8, 5),
+        Write(0, (1, 2), bytes(2), 512),
     )
     for case in some:
         whole = case.encode()
@@ -660,10 +779,14 @@ def past_the_sizes():
         yield "too much room for marks", bytes([3]) + none + none + size
     for more in (RUN + 1, 2**32 - 1):
         yield "too long a run of blocks", bytes([4]) + more.to_bytes(4, "little") + bytes(RUN + 1)
+        yield "too long a run to write to", write_bytes(1, 1, 1, more) + bytes(9)
+    for more in (FIELD + 1, 65535):
+        yield "too many numbers to write", write_bytes(1, more, 0, 512) + bytes(8 * more)
+        yield "too many marks to write", write_bytes(1, 0, more, 512) + bytes(more)
 
 
 def not_allowed():
-    """Rows 5, 6 and 8 with a width, kind, mark or number that the row does not allow."""
+    """Rows 5, 6, 8 and 9 with a width, kind, mark, number or edition that the row does not allow."""
     for width in (0, 1, 7, 9, 15, 17, 31, 33, 63, 65, 128, 255):
         yield f"operation at width {width}", operation_bytes(width, 1, 0, 1, 0, 1)
         yield f"signed at width {width}", signed_bytes(width, 0, 1, 1)
@@ -681,6 +804,8 @@ def not_allowed():
         for number in (2 ** (width - 1), -(2 ** (width - 1)) - 1, 2**63 - 1, -(2**63)):
             yield f"signed {number} at width {width}", signed_bytes(width, 0, number, 1)
             yield f"signed 1 by {number} at width {width}", signed_bytes(width, 1, 1, number)
+    for edition in (0, 2, 3, 255):
+        yield f"edition {edition}", write_bytes(edition, 1, 1, 512) + bytes(9)
 
 
 def values_not_allowed():
@@ -703,3 +828,7 @@ def signed_bytes(width, which, a, b):
 
 def plain_bytes(width, mark, number):
     return struct.pack("<BBBQ", 8, width, mark, number)
+
+
+def write_bytes(edition, number_count, mark_count, room):
+    return struct.pack("<BBIHHI", 9, edition, 0, number_count, mark_count, room)

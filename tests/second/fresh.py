@@ -21,7 +21,7 @@ ROOT = Path(__file__).resolve().parents[2]
 # Where the bytes of a case that differs are kept.
 KEPT = ROOT / "target" / "fresh-case"
 # How many random cases of each row.
-RANDOM = (8000, 4000, 4000, 1200, 6000, 3000, 3000, 1000)
+RANDOM = (8000, 4000, 4000, 1200, 6000, 3000, 3000, 1000, 2500)
 
 
 def boundaries(dice):
@@ -36,6 +36,8 @@ def boundaries(dice):
     yield from chain(cases.block_tables(), cases.block_damages(dice), cases.block_counts(), cases.block_lengths())
     yield from chain(cases.block_rooms(), cases.found_places(dice), cases.bad_before_or_after(dice))
     yield from chain(cases.run_lengths(dice), cases.longest_searches(dice))
+    yield from chain(cases.written_tables(), cases.written_rooms(), cases.written_numbers(), cases.written_overflows())
+    yield from chain(cases.written_faults(), cases.written_lists(), cases.longest_writings())
 
 
 def all_allowances(dice):

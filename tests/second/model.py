@@ -2,7 +2,8 @@
 
 This is the second program's own reading of the rules; it shares nothing with the crates. What is cheap to say in two
 ways is said in two ways here, and the two are compared on every case: a recipe's shape by a walk and by the list of all
-its faults, a run by single steps and by what it comes to, a block's layout by looking and by writing the block anew.
+its faults, a run by single steps and by what it comes to, a block's layout by looking and by writing the block anew, a
+field's blocks one by one and value by value. Blocks that are written are also read back, searched, and written again.
 
 A checked value is a number, or OVERFLOWED. A refusal is its number; 0 is none.
 """
@@ -18,7 +19,7 @@ BLOCK, VALUES, EDITION = 512, 55, 1
 
 DIVISOR_ZERO, BASE_BELOW_TWO, IS_OVERFLOWED, SIGNED_QUOTIENT = 1, 2, 3, 4
 WIDTH, LENGTHS, COUNT, KIND, LITERAL_LARGE, FEW_ON_HAND, HAND_FULL, SEVERAL_LEFT, NONE_LEFT = range(5, 14)
-FIELD_EMPTY, MARK, BLOCK_SIZE, CHECK, LAYOUT, NO_ROOM, ALLOWANCE = range(14, 21)
+FIELD_EMPTY, MARK, BLOCK_SIZE, CHECK, LAYOUT, NO_ROOM, ALLOWANCE, BLOCK_NUMBER = range(14, 22)
 
 
 def limit(width):
@@ -471,3 +472,92 @@ def search(run_of_blocks):
         if place >= 0:
             return 0, 0, (position, place)
     return 0, 0, None
+
+
+# Writing a field into blocks
+
+
+def blocks_for(count):
+    """How many blocks so many values take."""
+    return (count + VALUES - 1) // VALUES
+
+
+def write_fault_in_order(first, numbers, marks, room):
+    """Why a field isn't written to so many bytes, and where, by the rules in their order."""
+    if len(numbers) != len(marks):
+        return LENGTHS, 0
+    if not numbers:
+        return FIELD_EMPTY, 0
+    for place, (number, mark) in enumerate(zip(numbers, marks)):
+        if place_fault(number, mark) == MARK:
+            return MARK, place
+    blocks = blocks_for(len(numbers))
+    if room < BLOCK * blocks:
+        return NO_ROOM, 0
+    return (BLOCK_NUMBER, 0) if first + blocks > 2**32 else (0, 0)
+
+
+def write_fault_by_faults(first, numbers, marks, room):
+    """The same from the list of all faults, as if each stood alone: the least by order and place is given."""
+    last = (len(numbers) - 1) // VALUES
+    pairs = enumerate(zip(numbers, marks))
+    faults = [(2, place, MARK) for place, (number, mark) in pairs if mark not in (0, 1) or mark * number != 0]
+    faults += [(0, 0, LENGTHS)] * (len(numbers) != len(marks))
+    faults += [(1, 0, FIELD_EMPTY)] * (len(numbers) == 0)
+    faults += [(3, 0, NO_ROOM)] * (room // BLOCK <= last)
+    faults += [(4, 0, BLOCK_NUMBER)] * (limit(32) - first < last)
+    _, place, fault = min(faults, default=(0, 0, 0))
+    return fault, place
+
+
+def written_by_blocks(first, numbers, marks):
+    """The blocks of a field, one after the other."""
+    values = [OVERFLOWED if mark else number for number, mark in zip(numbers, marks)]
+    starts = range(0, len(values), VALUES)
+    return b"".join(make_block(first + at, values[start : start + VALUES]) for at, start in enumerate(starts))
+
+
+def written_by_values(first, numbers, marks):
+    """The same bytes by where each value stands: its place in the field says block and place there."""
+    run_of_blocks = bytearray(BLOCK * blocks_for(len(numbers)))
+    for place, (number, mark) in enumerate(zip(numbers, marks)):
+        position, within = divmod(place, VALUES)
+        start = BLOCK * position
+        run_of_blocks[start : start + 6] = *(first + position).to_bytes(4, "little"), within + 1, EDITION
+        run_of_blocks[start + 8 + 8 * within : start + 16 + 8 * within] = number.to_bytes(8, "little")
+        run_of_blocks[start + 448 + within] = mark
+    for start in range(0, len(run_of_blocks), BLOCK):
+        run_of_blocks[start + 508 : start + 512] = check_of(run_of_blocks[start : start + 508]).to_bytes(4, "little")
+    return bytes(run_of_blocks)
+
+
+def field_of(run_of_blocks):
+    """The numbers of a run's blocks, and the numbers and marks that they hold, by the reader."""
+    starts = range(0, len(run_of_blocks), BLOCK)
+    reads = [read(run_of_blocks[start : start + BLOCK], VALUES, VALUES) for start in starts]
+    assert all(fault == 0 for fault, _, _, _ in reads), "a written block is refused"
+    numbers = [number for _, _, numbers, _ in reads for number in numbers]
+    return [number for _, number, _, _ in reads], numbers, b"".join(marks for _, _, _, marks in reads)
+
+
+def see_written(first, numbers, marks, run_of_blocks):
+    """What a written run owes its reader."""
+    block_numbers, held, held_marks = field_of(run_of_blocks)
+    assert (held, held_marks) == (list(numbers), bytes(marks)), "another field is read back"
+    assert block_numbers == list(range(first, first + len(block_numbers))), "the blocks have other numbers"
+    assert written_by_blocks(block_numbers[0], held, held_marks) == run_of_blocks, "written again it differs"
+    place = bytes(marks).find(1)
+    found = (0, 0, divmod(place, VALUES) if place >= 0 else None)
+    assert search(run_of_blocks) == found, "the search finds another place than the field's first overflowed one"
+
+
+def write(first, numbers, marks, room):
+    """Refusal, its place, and the bytes that are written to a run of so many, the first block having this number."""
+    fault, place = write_fault_in_order(first, numbers, marks, room)
+    assert (fault, place) == write_fault_by_faults(first, numbers, marks, room), "the two refusals of a writing differ"
+    if fault:
+        return fault, place, b""
+    run_of_blocks = written_by_blocks(first, numbers, marks)
+    assert run_of_blocks == written_by_values(first, numbers, marks), "the two writings differ"
+    see_written(first, numbers, marks, run_of_blocks)
+    return 0, 0, run_of_blocks

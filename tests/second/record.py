@@ -13,8 +13,10 @@ import rows
 
 HERE = Path(__file__).resolve().parents[2] / "crates" / "replay"
 SEED = 20261115
-# How many random cases of each row there are beside those at the boundaries.
+# How many random cases of each of the first eight rows there are beside those at the boundaries.
 RANDOM = (700, 300, 250, 60, 300, 150, 150, 40)
+# A row that came later has dice of its own and stands behind, so that the cases before it stay as they are.
+WRITE_SEED, RANDOM_WRITES = 20261116, 36
 
 
 def tables():
@@ -64,14 +66,27 @@ def boundaries(dice):
 
 
 def every(n, things):
-    """Each n-th of them, so that the files stay small; the fresh cases have them all."""
+    """Each n-th of them, so that the files stay small (`rt try` takes lines of 1,048,576 bytes in all); the fresh cases
+    have them all."""
     return list(things)[::n]
+
+
+def writes(dice):
+    yield from cases.written_tables()
+    yield from cases.written_rooms()
+    yield from every(3, cases.written_numbers())
+    yield from every(3, cases.written_overflows())
+    yield from every(3, cases.written_faults())
+    yield from every(2, cases.written_lists())
+    yield from every(6, cases.longest_writings())
+    yield from (cases.some_write(dice) for _ in range(RANDOM_WRITES))
 
 
 def recorded():
     dice = cases.Dice(SEED)
     random_ones = [maker(dice) for maker, count in zip(cases.SOME, RANDOM) for _ in range(count)]
-    return [*tables(), *boundaries(dice), *dice.shuffled(random_ones)]
+    first_rows = [*tables(), *boundaries(dice), *dice.shuffled(random_ones)]
+    return [*first_rows, *writes(cases.Dice(WRITE_SEED))]
 
 
 def main():

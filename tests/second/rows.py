@@ -12,8 +12,10 @@ Numbers in a case are little-endian: b is 1 byte, h 2, w 4, q 8. A list is its e
 | 6 signed | b width, b which (0 quotient, 1 remainder), q a, q b, in two's complement of 64 bits | code place sign size |
 | 7 power-fit | q base, q exponent | 1 or 0 |
 | 8 plain number | b width, b mark, q number | code place number |
+| 9 write | b edition 1, w first block number, h n, h k, w j, n q of numbers, k marks, to be written to a run of j bytes, each 170 | code place length, then the j bytes afterwards |
 
-Lists are at most 4,096 elements and runs of blocks at most 65,536 bytes. What an answer doesn't have is 0.
+Lists are at most 4,096 elements, those of row 9 at most 8,192, and runs of blocks at most 65,536 bytes. What an answer
+doesn't have is 0.
 """
 import struct
 from typing import NamedTuple
@@ -21,7 +23,9 @@ from typing import NamedTuple
 import model
 
 LIST, RUN = 4096, 65536
-NUMBER_BEFORE, MARK_BEFORE = 7777777, 9
+# The most elements of a list of row 9.
+FIELD = 8192
+NUMBER_BEFORE, MARK_BEFORE, BYTE_BEFORE = 7777777, 9, 170
 
 
 def pair(value):
@@ -223,7 +227,30 @@ class Plain(NamedTuple):
         return f"the plain number at width {self.width} of {said(self.value)}"
 
 
-ROWS = (Run, Scan, Read, Search, Operation, Signed, Fit, Plain)
+class Write(NamedTuple):
+    first: int
+    numbers: tuple
+    marks: bytes
+    room: int
+
+    name = "write"
+
+    def encode(self):
+        counts = len(self.numbers), len(self.marks), self.room
+        return struct.pack("<BBIHHI", 9, model.EDITION, self.first, *counts) + quads(self.numbers) + self.marks
+
+    def line(self):
+        code, place, written = model.write(self.first, self.numbers, self.marks, self.room)
+        return line([code, place, len(written), *written, *[BYTE_BEFORE] * (self.room - len(written))])
+
+    def words(self):
+        return (
+            f"write from block {self.first} on to {self.room} bytes of {len(self.numbers)} numbers"
+            f" {list(self.numbers)} with marks {list(self.marks)}"
+        )
+
+
+ROWS = (Run, Scan, Read, Search, Operation, Signed, Fit, Plain, Write)
 
 
 def encode(cases):

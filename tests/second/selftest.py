@@ -46,6 +46,37 @@ class Tables(unittest.TestCase):
         self.assertEqual(checks, [6, 38, 460])
         self.assertLess(model.check_of(bytes([255]) * 512), 2**32)
 
+    def test_written_checks(self):
+        for number, mark, check in ((3, 0, 38), (0, 1, 460)):
+            fault, place, run = model.write(0, [number], bytes([mark]), 512)
+            self.assertEqual((fault, place, len(run)), (0, 0, 512))
+            self.assertEqual(int.from_bytes(run[508:], "little"), check)
+
+    def test_written_blocks(self):
+        """Every block but the last has 55 values, and the last from 1 to 55."""
+        for n, counts in ((1, [1]), (54, [54]), (55, [55]), (56, [55, 1]), (110, [55, 55]), (111, [55, 55, 1])):
+            run = model.write(2**32 - len(counts), [7] * n, bytes(n), 512 * len(counts))[2]
+            self.assertEqual([block[4] for block in blocks_of(run)], counts)
+            numbers = [model.number_of_block(block) for block in blocks_of(run)]
+            self.assertEqual(numbers, list(range(2**32 - len(counts), 2**32)))
+
+    def test_refusals_of_a_writing(self):
+        """Each refusal alone, and each before those that come after it."""
+        most = 2**32 - 1
+        for wanted, first, numbers, marks, room in (
+            ((6, 0), 0, [1], b"", 512),
+            ((6, 0), most, [5] * 56, b"\2", 0),
+            ((14, 0), 0, [], b"", 512),
+            ((14, 0), most, [], b"", 0),
+            ((15, 1), 0, [1, 2], b"\0\2", 512),
+            ((15, 1), 0, [0, 2], b"\1\1", 512),
+            ((15, 0), most, [5] * 56, bytes([255]) * 56, 0),
+            ((19, 0), 0, [1] * 56, bytes(56), 1023),
+            ((19, 0), most, [1] * 56, bytes(56), 1023),
+            ((21, 0), most, [1] * 56, bytes(56), 1024),
+        ):
+            self.assertEqual(model.write(first, numbers, marks, room), (*wanted, b""))
+
     def test_roots(self):
         self.assertEqual([cases.root_of(e) for e in (2, 40, 41, 63, 64)], [4294967295, 3, 2, 2, 1])
 
@@ -99,7 +130,7 @@ class Makers(unittest.TestCase):
         dice = cases.Dice(1)
         some = [maker(dice) for maker in cases.SOME for _ in range(1500) if maker is not cases.some_fit]
         met = {int(line.split()[0]) for line in rows.lines(some)}
-        self.assertEqual(met, set(range(21)) - {13})
+        self.assertEqual(met, set(range(22)) - {13})
 
     def test_the_same_seed_gives_the_same_cases(self):
         first, second = cases.Dice(2), cases.Dice(2)
@@ -110,6 +141,10 @@ class Makers(unittest.TestCase):
         dice = cases.Dice(3)
         for maker in cases.SOME:
             self.assertTrue(maker(dice).words())
+
+
+def blocks_of(run):
+    return [run[start : start + model.BLOCK] for start in range(0, len(run), model.BLOCK)]
 
 
 def stands_for(most, value):

@@ -1,5 +1,5 @@
--- What the scan of a field promises, one named theorem for each promise. The function's contract says that its answer is the one of `scanOf`; `Unique` says
--- that no other answer is.
+-- What the scan of a field and the look at its marks alone promise, one named theorem for each promise. The scan's
+-- contract says that its answer is the one of `scanOf`; `Unique` says that no other answer is.
 -- Assumes nothing.
 use mathlib.Core.Path.{_≡_, ap, sym, _∙_, subst}
 use mathlib.Core.Logic.{_↔_, _⊎_, inl, inr, ⊎-elim}
@@ -9,8 +9,9 @@ use native.Mathlib.Numerals.{add-one}
 use native.Mathlib.Omega.{arith}
 use lib.ListN.{length, getD}
 use Rattle.whole.specs.logarithm.{log-of}
-use Rattle.places.specs.Faults.{NoFaultBefore}
-use Rattle.field.specs.Field.{markFault, faultOf, faultAt, BadMark, EndsAt}
+use Rattle.places.specs.Faults.{firstFault, NoFaultBefore, FirstFault}
+use Rattle.places.proofs.Faults.{faulty-at, faultless, walk, first-fault-is, no-fault-is}
+use Rattle.field.specs.Field.{markFault, faultOf, markFaultAt, faultAt, BadMark, EndsAt}
 use Rattle.field.specs.Range.{Holds, packingWidth, refused, rangeOf, scanOf}
 use Rattle.field.proofs.Faults.{fits, overflowed, bad, standing, unmarked-faults, overflowed-faults}
 use Rattle.field.proofs.Faults.{bad-faults, bad-only, fault-not-6, fault-not-14}
@@ -18,6 +19,8 @@ use Rattle.field.proofs.Ranges.{least-bound, greatest-bound, least-held
 use Rattle.field.proofs.Widths.{width-bound, width-least}
 use Rattle.field.proofs.Scans.{unequal, empty, ended, whole, stage}
 use Rattle.field.proofs.Scans.{at-unequal, at-empty, at-range, at-fault-exactly}
+-- the contract on the earliest bad mark gives the place itself, and so leaves one
+pub use Rattle.little.proofs.Unique.{value-unique}
 
 -- ---- a place's fault, by its mark and its number
 
@@ -38,6 +41,15 @@ module _ (mark number : ℕ) where
   -- and 15 exactly when the mark is neither 0 nor 1, or it is 1 and the number isn't 0
   pub mark-fault-15-exactly : (markFault mark number ≡ 15) ↔ BadMark mark number
   mark-fault-15-exactly = (λ f. bad-only mark number (inl f), λ b. bad-faults mark number b .0)
+
+  -- there is no other
+  pub mark-fault-0-or-15 : (markFault mark number ≡ 0 → ⊥) → markFault mark number ≡ 15
+  mark-fault-0-or-15 m =
+      elim (standing mark number) [
+        | fits z g h ↦ absurd (m g)
+        | overflowed e z g h ↦ absurd (m g)
+        | bad b g h ↦ g
+      ]
 
   -- in a scan, none exactly when the mark is 0
   pub fault-0-exactly : (faultOf mark number ≡ 0) ↔ (mark ≡ 0)
@@ -65,6 +77,45 @@ module _ (mark number : ℕ) where
             | fits z g h ↦ let a : ⊥ = omega arith in absurd a
             | overflowed e z g h ↦ (e, z)
             | bad b g h ↦ let a : ⊥ = omega arith in absurd a
+          ]
+
+-- ---- the earliest bad mark, where overflowed values are taken like the others
+
+module _ (numbers marks : List ℕ) where
+  abbrev markFaults : ℕ → ℕ
+  markFaults = markFaultAt numbers marks
+
+  -- it is at place i exactly when place i has a bad mark and no place before it has one
+  pub first-bad-exactly
+      : (i : ℕ) →
+      ((firstFault markFaults (length numbers) ≡ i) × (i < length numbers))
+      ↔ FirstFault markFaults (length numbers) 15 i
+  first-bad-exactly i =
+      (only, λ f. (first-fault-is markFaults (length numbers) i (f .0) (λ z. omega arith) (f .2), f .0))
+    where
+      only
+          : (firstFault markFaults (length numbers) ≡ i) × (i < length numbers) →
+          FirstFault markFaults (length numbers) 15 i
+      only (e, h) =
+          elim (walk markFaults (length numbers)) [
+            | faultless b ↦ let a : ⊥ = omega (arith, no-fault-is markFaults (length numbers) b) in absurd a
+            | faulty-at j m (l, f, b) ↦
+                subst (FirstFault markFaults (length numbers) 15)
+                (sym (first-fault-is markFaults (length numbers) j l m b) ∙ e)
+                (l, mark-fault-0-or-15 (getD marks j 0) (getD numbers j 0) m, b)
+          ]
+
+  -- there is none, and so it is how many numbers there are, exactly when no place has a bad mark
+  pub no-bad-exactly
+      : (firstFault markFaults (length numbers) ≡ length numbers) ↔ NoFaultBefore markFaults (length numbers)
+  no-bad-exactly = (only, no-fault-is markFaults (length numbers))
+    where
+      only : firstFault markFaults (length numbers) ≡ length numbers → NoFaultBefore markFaults (length numbers)
+      only e =
+          elim (walk markFaults (length numbers)) [
+            | faultless b ↦ b
+            | faulty-at j m (l, f, b) ↦
+                let a : ⊥ = omega (arith, first-fault-is markFaults (length numbers) j l m b) in absurd a
           ]
 
 module _ (numbers marks : List ℕ) where

@@ -26,6 +26,9 @@ faultOf mark number = cond (eqb (markFault mark number) 0) (cond (eqb mark 0) 0 
 
 -- ---- at each place of a field
 
+abbrev pub wellMarkedAt : List ℕ → List ℕ → ℕ → Bool
+wellMarkedAt numbers marks i = wellMarked (getD marks i 0) (getD numbers i 0)
+
 -- where overflowed values are taken like the others
 abbrev pub markFaultAt : List ℕ → List ℕ → ℕ → ℕ
 markFaultAt numbers marks i = markFault (getD marks i 0) (getD numbers i 0)

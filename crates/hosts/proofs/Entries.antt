@@ -13,10 +13,14 @@ use Rattle.little.proofs.Stored.{put-stored, put-nowhere}
 use Rattle.layout.specs.Layout.{editionOf}
 use Rattle.layout.specs.Reading.{readFault, readingOf, numbersAfter, marksAfter}
 use Rattle.layout.proofs.Promises.{given-where-accepted, refused-at-0}
+use Rattle.layout.specs.Editions.{one}
 use Rattle.block.specs.declared.types.Read.{Read}
 use Rattle.block.specs.Answers.{reading}
+use Rattle.written.specs.Writing.{writingOf, runAfter}
+use Rattle.write.specs.declared.types.Write.{Write}
+use Rattle.write.specs.Answers.{writing}
 use Rattle.hosts.specs.Entry.{Told, answerCode, answerList, besides}
-use Rattle.hosts.specs.Answers.{ofReading, numbersBeside, marksBeside}
+use Rattle.hosts.specs.Answers.{ofReading, ofWriting, numbersBeside, marksBeside, runBeside}
 
 module _ (t : Told) (lent : List ℕ) where
   pub short-returned : length lent < length (t .words) → answerCode t lent ≡ 19
@@ -87,6 +91,31 @@ module _ (b numbers marks lent : List ℕ) where
       let n = roomy-beside told lent (numbersAfter b numbers marks) numbers h in
       let m = roomy-beside told lent (marksAfter b numbers marks) marks h in
       (g .0, (g .1, (filled ∙ sym n, marked ∙ sym m)))
+
+-- ---- the writer, with its run
+
+module _ (first : ℕ) (numbers marks run lent : List ℕ) where
+  abbrev told-writing : Told
+  told-writing = ofWriting (writingOf one first numbers marks run)
+
+  pub write-short-gives
+      : {r : ℕ} → length lent < 2 → r ≡ 19 →
+      (r ≡ answerCode told-writing lent)
+      × ((lent ≡ answerList told-writing lent) × (run ≡ runBeside first numbers marks run lent))
+  write-short-gives h e =
+      let s = short-gives told-writing lent h e in
+      (s .0, (s .1, sym (short-beside told-writing lent (runAfter one first numbers marks run) run h)))
+
+  -- in an arm of the `match` on its answer, which is x there
+  pub write-gives
+      : {x answer : Write} {r : ℕ} {now after : List ℕ} → 2 ≤ length lent → r ≡ ofWriting (writing x) .code →
+      now ≡ sets lent 0 (ofWriting (writing x) .words) → answer ≡ x →
+      writing answer ≡ writingOf one first numbers marks run → after ≡ runAfter one first numbers marks run →
+      (r ≡ answerCode told-writing lent)
+      × ((now ≡ answerList told-writing lent) × (after ≡ runBeside first numbers marks run lent))
+  write-gives {x} h e s is ensured filled =
+      let g = arm writing ofWriting lent {x = x} h e s is ensured in
+      (g .0, (g .1, filled ∙ sym (roomy-beside told-writing lent (runAfter one first numbers marks run) run h)))
 
 -- what the reader answers has its fault's number
 pub reading-code : (b numbers marks : List ℕ) → readingOf b numbers marks .code ≡ readFault b numbers marks

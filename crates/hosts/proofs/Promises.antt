@@ -1,7 +1,8 @@
 -- What the entries for hosts promise, one named theorem for each promise. An entry's contract says that it returns what
 -- `answerCode` gives and leaves what `answerList` gives, where t is `ofRun (runOf ..)`, `ofShape (shapeOf ..)`,
--- `ofScan (scanOf ..)`, `ofReading (readingOf ..)` or `ofSearch (searchOf ..)`: so what each refusal means is said by
--- the pages of promises of `recipe`, `shape`, `field`, `block` and `search`. `Unique` says that this leaves one answer.
+-- `ofScan (scanOf ..)`, `ofReading (readingOf ..)`, `ofWriting (writingOf ..)` or `ofSearch (searchOf ..)`: so what
+-- each refusal means is said by the pages of promises of `recipe`, `shape`, `field`, `block`, `write` and `search`.
+-- `Unique` says that this leaves one answer.
 -- Assumes nothing.
 use mathlib.Core.Path.{_≡_, refl, sym, ap, _∙_}
 use mathlib.Core.Logic.{_↔_, _⊎_, inl, inr, ⊎-elim}
@@ -30,12 +31,18 @@ use Rattle.field.specs.Range.{Scanned, scanOf}
 use Rattle.field.proofs.Promises as scan
 use Rattle.layout.specs.Reading.{Reading}
 use Rattle.block.specs.Answers.{withCode, soundOf}
+use Rattle.layout.specs.Editions.{one}
+use Rattle.written.specs.Run.{lengthFor}
+use Rattle.written.specs.Writing.{Writing, writingOf, runAfter, GoodField}
+use Rattle.written.specs.Writing as write
+use Rattle.write.proofs.Promises as writer
 use Rattle.search.specs.Search.{Searched, searchOf}
 use Rattle.search.proofs.Promises as search
 use Rattle.recipe.specs.Run.{runOf}
 use Rattle.recipe.proofs.Promises as run
 use Rattle.hosts.specs.Entry.{Told, Room, answerCode, answerList, signedCode, signedList}
-use Rattle.hosts.specs.Answers.{ofShape, ofScan, ofReading, ofSearch, ofRun, numbersBeside, marksBeside}
+use Rattle.hosts.specs.Answers.{ofShape, ofScan, ofReading, ofWriting, ofSearch, ofRun}
+use Rattle.hosts.specs.Answers.{numbersBeside, marksBeside, runBeside}
 use Rattle.hosts.proofs.Entries.{short-returned, roomy-returned, short-beside, roomy-beside, reading-code}
 use Rattle.hosts.proofs.Signed.{short-signed-returned}
 use Rattle.hosts.proofs.Signed.{refused-signed-stays, number-signed-written}
@@ -71,10 +78,11 @@ module _ (t : Told) (lent : List ℕ) where
 
 -- how many numbers each answer has
 pub answer-lengths
-    : (v : Verdict) (s : Scanned) (r : Reading) (f : Searched) (W : ℕ) (ks ns : List ℕ) (k : ℕ) →
+    : (v : Verdict) (s : Scanned) (r : Reading) (w : Writing) (f : Searched) (W : ℕ) (ks ns : List ℕ) (k : ℕ) →
     (length (ofShape v .words) ≡ 2) × (length (ofScan s .words) ≡ 4) × (length (ofReading r .words) ≡ 3)
-    × (length (ofSearch f .words) ≡ 4) × (length (ofRun (runOf W ks ns k) .words) ≡ 50)
-answer-lengths v s r f W ks ns k = (refl, refl, refl, refl, run-of-words W ks ns k)
+    × (length (ofWriting w .words) ≡ 2) × (length (ofSearch f .words) ≡ 4)
+    × (length (ofRun (runOf W ks ns k) .words) ≡ 50)
+answer-lengths v s r w f W ks ns k = (refl, refl, refl, refl, refl, run-of-words W ks ns k)
 
 -- ---- 19, entry by entry
 
@@ -136,6 +144,36 @@ read-19-exactly b numbers marks lent = (only, ⊎-elim (λ h. both .1 (inl h)) (
         (length lent < 3) ⊎ ((faultOf b ≡ 0) × ((length numbers < count b) ⊎ (length marks < count b)))
     only e = ⊎-elim inl (λ c. inr (own .0 c)) (both .0 e)
 
+-- the writer's, also where the field can be written and the run has fewer bytes than its blocks
+pub write-19-exactly
+    : (first : ℕ) (numbers marks run lent : List ℕ) →
+    (answerCode (ofWriting (writingOf one first numbers marks run)) lent ≡ 19)
+    ↔ ((length lent < 2) ⊎ (GoodField numbers marks × (length run < lengthFor one (length numbers))))
+write-19-exactly first numbers marks run lent =
+    (only, ⊎-elim (λ h. both .1 (inl h)) (λ p. both .1 (inr (ap (λ w. w .code) (own .1 p)))))
+  where
+    both
+        : (answerCode (ofWriting (writingOf one first numbers marks run)) lent ≡ 19)
+        ↔ ((length lent < 2) ⊎ (writingOf one first numbers marks run .code ≡ 19))
+    both = answer-19-exactly (ofWriting (writingOf one first numbers marks run)) lent
+
+    own
+        : (writingOf one first numbers marks run ≡ write.refused 19 0)
+        ↔ (GoodField numbers marks × (length run < lengthFor one (length numbers)))
+    own = writer.refused-19-exactly one first numbers marks run
+
+    whole
+        : writingOf one first numbers marks run .code ≡ 19 → writingOf one first numbers marks run ≡ write.refused 19 0
+    whole c =
+        ⊎-elim (λ e. absurd (let d = ap (λ w. w .code) e in omega arith))
+        (⊎-elim (λ e. absurd (let d = ap (λ w. w .code) e in omega arith)) (λ e. e ∙ ap (λ k. write.refused k 0) c))
+        (writer.said-by-code one first numbers marks run)
+
+    only
+        : answerCode (ofWriting (writingOf one first numbers marks run)) lent ≡ 19 →
+        (length lent < 2) ⊎ (GoodField numbers marks × (length run < lengthFor one (length numbers)))
+    only e = ⊎-elim inl (λ c. inr (own .0 (whole c))) (both .0 e)
+
 -- ---- a block alone
 
 -- a number exactly when looking at the block gives it, of which `block` says when that is
@@ -182,6 +220,32 @@ module _ (b numbers marks lent : List ℕ) where
       refused : Room t lent → readFault b numbers marks ≡ 0 → ⊥
       refused room z =
           n (roomy-returned t lent room ∙ ap (λ r. r .code) (given-where-accepted (editionOf b) b numbers marks z))
+
+-- ---- the writer's run
+
+module _ (first : ℕ) (numbers marks run lent : List ℕ) where
+  -- with 0 it holds the field's blocks, as `write` promises
+  pub write-fills
+      : answerCode (ofWriting (writingOf one first numbers marks run)) lent ≡ 0 →
+      runBeside first numbers marks run lent ≡ runAfter one first numbers marks run
+  write-fills e =
+      let t = ofWriting (writingOf one first numbers marks run) in
+      let r = answer-code-exactly t lent 0 (λ z. let f : ⊥ = omega arith in f) .0 e .0 in
+      roomy-beside t lent (runAfter one first numbers marks run) run r
+
+  -- with any refusal it stays
+  pub write-refused-stays
+      : (answerCode (ofWriting (writingOf one first numbers marks run)) lent ≡ 0 → ⊥) →
+      runBeside first numbers marks run lent ≡ run
+  write-refused-stays n =
+      let t = ofWriting (writingOf one first numbers marks run) in
+      elim (decLt (length lent) 2) [
+        | yes h ↦ short-beside t lent (runAfter one first numbers marks run) run h
+        | no m ↦
+            let room : Room t lent = omega arith in
+            roomy-beside t lent (runAfter one first numbers marks run) run room
+            ∙ writer.refused-stays one first numbers marks run (λ z. n (roomy-returned t lent room ∙ z))
+      ]
 
 -- ---- one signed number
 

@@ -5,10 +5,13 @@ use mathlib.Core.List.{List}
 use Prim.Native.Nat.{ℕ}
 use lib.IntN.{ℤ}
 use Rattle.signed.specs.Signed.{Answer}
+use Rattle.layout.specs.Editions.{one}
 use Rattle.layout.specs.Reading.{readingOf}
+use Rattle.written.specs.Writing.{writingOf}
 use Rattle.little.proofs.Unique.{value-unique}
 use Rattle.hosts.specs.Entry.{Told, answerCode, answerList, signedCode, signedList}
-use Rattle.hosts.specs.Answers.{ofReading, numbersBeside, marksBeside, ReadsForHost}
+use Rattle.hosts.specs.Answers.{ofReading, ofWriting, numbersBeside, marksBeside, runBeside}
+use Rattle.hosts.specs.Answers.{ReadsForHost, WritesForHost}
 
 -- run, shape, scan and search: the number, and the list of the answer
 pub host-entry-unique
@@ -29,6 +32,18 @@ host-read-unique b numbers marks lent r s now ns ms now' ns' ms' g h =
       value-unique now now' (answerList t lent) (g .1) (h .1),
       value-unique ns ns' (numbersBeside b numbers marks lent) (g .2) (h .2),
       value-unique ms ms' (marksBeside b numbers marks lent) (g .3) (h .3),
+    )
+
+-- the writer: the number, the list of its answer, and the run
+pub host-write-unique
+    : (first : ℕ) (numbers marks run lent : List ℕ) (r s : ℕ) (now after now' after' : List ℕ) →
+    WritesForHost first numbers marks run lent r now after → WritesForHost first numbers marks run lent s now' after' →
+    (r ≡ s) × (now ≡ now') × (after ≡ after')
+host-write-unique first numbers marks run lent r s now after now' after' g h =
+    let t = ofWriting (writingOf one first numbers marks run) in (
+      value-unique r s (answerCode t lent) (g .0) (h .0),
+      value-unique now now' (answerList t lent) (g .1) (h .1),
+      value-unique after after' (runBeside first numbers marks run lent) (g .2) (h .2),
     )
 
 -- the signed quotient and remainder: the number that is returned, and the list of one signed number

@@ -11,7 +11,9 @@ use Rattle.little.specs.Bytes.{part, little}
 use Rattle.shape.specs.Shape.{Verdict}
 use Rattle.recipe.specs.Run.{Shown}
 use Rattle.field.specs.Range.{Scanned}
+use Rattle.layout.specs.Editions.{one}
 use Rattle.layout.specs.Reading.{Reading, readingOf, numbersAfter, marksAfter}
+use Rattle.written.specs.Writing.{Writing, writingOf, runAfter}
 use Rattle.search.specs.Search.{Searched}
 use Rattle.hosts.specs.declared.types.PhaseNumbers.{PhaseNumbers}
 use Rattle.hosts.specs.Entry.{Told, answerCode, answerList, besides}
@@ -41,6 +43,21 @@ ReadsForHost b numbers marks lent r now ns ms =
     × (now ≡ answerList (ofReading (readingOf b numbers marks)) lent)
     × (ns ≡ numbersBeside b numbers marks lent)
     × (ms ≡ marksBeside b numbers marks lent)
+
+abbrev pub ofWriting : Writing → Told
+ofWriting w = record { code = w .code; words = w .place ∷ w .length ∷ [] }
+
+-- the writer's run, which stays where its answer has no room
+abbrev pub runBeside : (first : ℕ) → (numbers marks run lent : List ℕ) → List ℕ
+runBeside first numbers marks run lent =
+    besides (ofWriting (writingOf one first numbers marks run)) lent (runAfter one first numbers marks run) run
+
+-- the writer's whole contract: the number, the list of its answer, and the run
+abbrev pub WritesForHost : (first : ℕ) → (numbers marks run lent : List ℕ) → ℕ → List ℕ → List ℕ → Type 0
+WritesForHost first numbers marks run lent r now after =
+    (r ≡ answerCode (ofWriting (writingOf one first numbers marks run)) lent)
+    × (now ≡ answerList (ofWriting (writingOf one first numbers marks run)) lent)
+    × (after ≡ runBeside first numbers marks run lent)
 
 abbrev pub ofSearch : Searched → Told
 ofSearch s = record { code = s .code; words = s .place ∷ s .found ∷ s .position ∷ s .within ∷ [] }

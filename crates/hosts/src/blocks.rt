@@ -1,6 +1,7 @@
 // Blocks and runs of blocks.
 use crate::answer::put_four;
 use crate::answer::put_three;
+use crate::answer::put_two;
 use crate::answer::too_short;
 use block::read::read;
 use block::sound::sound;
@@ -8,15 +9,22 @@ use block::types::Read;
 use block::types::Sound;
 use search::search::search;
 use search::types::Found;
+use write::types::Write;
+use write::write::write;
 ghost use mathlib.Core.Path.{_≡_};
+ghost use Rattle.layout.specs.Editions.{one};
 ghost use Rattle.layout.specs.Reading.{readingOf};
 ghost use Rattle.block.specs.Answers.{soundOf};
 ghost use Rattle.search.specs.Search.{searchOf};
+ghost use Rattle.written.specs.Writing.{writingOf};
 ghost use Rattle.hosts.specs.Entry.{answerCode, answerList};
-ghost use Rattle.hosts.specs.Answers.{ofReading, ofSearch, numbersBeside, marksBeside};
+ghost use Rattle.hosts.specs.Answers.{ofReading, ofWriting, ofSearch, numbersBeside, marksBeside, runBeside};
 
 // The refusal's place, which is 0, with the block's number and count.
 const BLOCK_ANSWER_LENGTH: usize = 3;
+
+// The refusal's place, or 0 with the length written.
+const WRITTEN_LENGTH: usize = 2;
 
 // The refusal's place, or 0 with whether a value was found, its block's position and its place there.
 const FOUND_LENGTH: usize = 4;
@@ -70,6 +78,46 @@ pub extern "C" fn razovinto_read(
         }
         Read::Refused(refusal) => {
             put_three(answer, 0, 0, 0);
+            refusal.number()
+        }
+    }
+}
+
+// The field's blocks go into the run, which stays on every refusal: where there is no room for the answer, the field
+// isn't looked at.
+#[no_mangle]
+pub extern "C" fn razovinto_write(
+    first: u32,
+    numbers: &[u64],
+    marks: &[u8],
+    run: &mut [u8],
+    answer: &mut [u64],
+) -> u32
+    ensures { λ r. ⌜
+        r ≡
+        answerCode (ofWriting (writingOf one first (now (numbers .entry)) (now (marks .entry)) (now (run .entry))))
+        (now (answer .entry))
+        ⌝ }
+    ensures { λ r. ⌜
+        now (answer .exit) ≡
+        answerList (ofWriting (writingOf one first (now (numbers .entry)) (now (marks .entry)) (now (run .entry))))
+        (now (answer .entry))
+        ⌝ }
+    ensures { λ r. ⌜
+        now (run .exit) ≡
+        runBeside first (now (numbers .entry)) (now (marks .entry)) (now (run .entry)) (now (answer .entry))
+        ⌝ }
+{
+    if answer.len() < WRITTEN_LENGTH {
+        return too_short();
+    }
+    match write(numbers, marks, first, run) {
+        Write::Length(length) => {
+            put_two(answer, 0, length);
+            0
+        }
+        Write::Refused(refusal, place) => {
+            put_two(answer, place, 0);
             refusal.number()
         }
     }

@@ -27,6 +27,11 @@ unfoldable pub bytesOf : ℕ → ℕ → List ℕ
 bytesOf zero n = []
 bytesOf (suc k) n = n % 256 ∷ bytesOf k (n / 256)
 
+-- numbers of eight bytes each, one after the other
+unfoldable pub longs : List ℕ → List ℕ
+longs [] = []
+longs (n ∷ ns) = bytesOf 8 n ++ longs ns
+
 -- byte j of a number
 abbrev pub byteOf : ℕ → ℕ → ℕ
 byteOf n j = n / 256 ^ j % 256

@@ -1,10 +1,10 @@
 // Numbers put together from their bytes, single bytes of a number, and whether bytes are all zero. No function asks
 // anything of its caller, so that every crate shares them; where a number's bytes stand side by side, a compiler
-// makes one load or one store of them.
+// makes one load of them.
 ghost use mathlib.Core.Path.{_≡_};
 ghost use mathlib.Core.List.{[], _∷_};
 ghost use Prim.Native.Nat.{min};
-ghost use Rattle.little.specs.Bytes.{little, bytesOf, byteOf, put};
+ghost use Rattle.little.specs.Bytes.{little, byteOf};
 ghost use Rattle.little.specs.Zeros.{zeros};
 
 pub fn half(a: u8, b: u8) -> u16
@@ -33,33 +33,6 @@ pub fn byte(number: u64, j: u64) -> u8
         return 0;
     }
     ((number >> (8 * j)) % 256) as u8
-}
-
-// Stores a number in eight bytes from place `at` on; a list without room for them stays.
-pub fn put_long(b: &mut [u8], at: usize, number: u64)
-    ensures { λ r. ⌜ now (b .exit) ≡ put at (bytesOf 8 number) (now (b .entry)) ⌝ }
-{
-    if b.len() < 8 {
-        return;
-    }
-    if b.len() - 8 < at {
-        return;
-    }
-    let second = number / 256;
-    let third = second / 256;
-    let fourth = third / 256;
-    let fifth = fourth / 256;
-    let sixth = fifth / 256;
-    let seventh = sixth / 256;
-    let eighth = seventh / 256;
-    b[at] = (number % 256) as u8;
-    b[at + 1] = (second % 256) as u8;
-    b[at + 2] = (third % 256) as u8;
-    b[at + 3] = (fourth % 256) as u8;
-    b[at + 4] = (fifth % 256) as u8;
-    b[at + 5] = (sixth % 256) as u8;
-    b[at + 6] = (seventh % 256) as u8;
-    b[at + 7] = (eighth % 256) as u8;
 }
 
 fn lesser(a: usize, b: usize) -> usize

@@ -4,7 +4,7 @@
 use mathlib.Core.Bool.{Bool, true, false, _&&_}
 use mathlib.Core.List.{List, [], _∷_, _++_}
 use Prim.Native.Nat.{ℕ, zero, suc, _+_}
-use lib.ListN.{drop}
+use lib.ListN.{length, drop}
 
 -- the first of the k places from i on at which f holds, or the place after them
 unfoldable pub firstFrom : (ℕ → Bool) → ℕ → ℕ → ℕ
@@ -33,3 +33,14 @@ table f (suc n) = table f n ++ (f n ∷ [])
 -- a list with its first n places written over, and nothing past them
 abbrev pub over : (ℕ → ℕ) → ℕ → List ℕ → List ℕ
 over f n old = table f n ++ drop n old
+
+-- ---- lists one after the other
+
+-- the lists f 0 to f (n - 1), one after the other
+unfoldable pub chained : (ℕ → List ℕ) → ℕ → List ℕ
+chained f zero = []
+chained f (suc n) = chained f n ++ f n
+
+-- a list that begins with these and goes on as it was
+abbrev pub overlaid : List ℕ → List ℕ → List ℕ
+overlaid xs old = xs ++ drop (length xs) old

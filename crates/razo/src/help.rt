@@ -13,6 +13,9 @@ razo read FILE..
     a line for each block: position, number, count, how many values overflowed,
     least, greatest and packing width ('-' in a block that is empty or has an
     overflowed value); or why the block is bad
+razo write FIRST FILE
+    the blocks of a file of numbers, to standard output: 55 values in each but
+    the last, which has what is left, and block numbers from FIRST on
 razo run WIDTH ALLOWANCE WORD..
     a recipe at 8, 16, 32 or 64 bits: its answer and steps, or its refusal, or
     the state in which its allowance was spent
@@ -26,6 +29,9 @@ several, each line begins with the file's name and a colon. A WORD is a number
 below 2^64, or an operation on the two values before it: sum, product, quotient,
 remainder, power, logarithm. Blocks, places and words are counted from 0.
 
+The FILE of 'write' has words with white space between them: numbers below 2^64,
+or 'overflowed'. At the first that is neither, nothing more is written.
+
 The exit status is
     0  where all is well
     1  where an overflowed value was found, a block is bad, or a recipe's answer
@@ -35,6 +41,7 @@ The exit status is
 
     razo search blocks.dat
     razo read monday.blocks tuesday.blocks
+    razo write 0 numbers.txt >numbers.blocks
     razo run 8 100 255 1 sum 0 product
 ",
     );

@@ -10,11 +10,14 @@ mod show;
 mod status;
 mod text;
 mod words;
+mod write_command;
 
 use crate::file::open;
 use crate::help::help;
 use crate::lists::number_of;
 use crate::read_command::read_parts;
+use crate::run_command::Given;
+use crate::run_command::number_at;
 use crate::run_command::run_command;
 use crate::search_command::search_parts;
 use crate::status::UNWRITTEN;
@@ -27,20 +30,24 @@ use crate::text::complain_too_long;
 use crate::text::fail;
 use crate::text::first;
 use crate::text::same;
+use crate::write_command::LARGEST_BLOCK_NUMBER;
+use crate::write_command::write_parts;
 use libc::STDERR_FILENO;
 use libc::STDIN_FILENO;
 use libc::STDOUT_FILENO;
 
-// What is done with a file of blocks.
+// What is done with a file of blocks; or with one of numbers, whose first block gets this number.
 enum Command {
     Search,
     Read,
+    Write(u64),
 }
 
 fn go_on(command: Command, fd: i32, name: &[u8], named: bool) -> u8 {
     match command {
         Command::Search => search_parts(fd, name, named),
         Command::Read => read_parts(fd, name, named),
+        Command::Write(number) => write_parts(fd, name, number),
     }
 }
 
@@ -94,12 +101,41 @@ fn on_files(command: Command, said: &[u8], words: usize) -> u8 {
     on_each(command, words)
 }
 
+fn complain_first(number: u64) -> u8 {
+    let mut digits = [0u8; 20];
+    let count = io::decimal(number, &mut digits);
+    complain(
+        b"razo: FIRST, '",
+        &digits[..count],
+        b"', is too large: block numbers are below 2^32\n",
+    )
+}
+
+// The file of numbers that the last word names. The word before it is the first block's number.
+fn on_numbers(words: usize) -> u8 {
+    if words != 4 {
+        return complain(
+            b"razo: '",
+            b"write",
+            b"' takes FIRST and FILE: a block number, and a name, or '-' for standard input\n",
+        );
+    }
+    let Given::Number(number) = number_at(2, b"razo: FIRST, '") else {
+        return WRONG;
+    };
+    if LARGEST_BLOCK_NUMBER < number {
+        return complain_first(number);
+    }
+    on_file(Command::Write(number), 3, false)
+}
+
 fn obey(said: &[u8], words: usize) -> u8 {
-    match number_of(said, 6, b"search\nread\nrun\n--help\n-h\nhelp\n") {
+    match number_of(said, 7, b"search\nread\nrun\nwrite\n--help\n-h\nhelp\n") {
         1 => on_files(Command::Search, said, words),
         2 => on_files(Command::Read, said, words),
         3 => run_command(words),
-        4..=6 => help(STDOUT_FILENO),
+        4 => on_numbers(words),
+        5..=7 => help(STDOUT_FILENO),
         _ => complain(
             b"razo: '",
             said,

@@ -10,7 +10,7 @@ use crate::words::word_of;
 use recipe::run::run;
 
 // A number that was asked for, or nothing.
-enum Given {
+pub(crate) enum Given {
     Number(u64),
     Nothing,
 }
@@ -40,7 +40,7 @@ fn number_in(before: &[u8], said: &[u8]) -> Given {
 }
 
 // The number that a word of the command line is. A complaint about the word begins with `before`.
-fn number_at(index: usize, before: &[u8]) -> Given {
+pub(crate) fn number_at(index: usize, before: &[u8]) -> Given {
     let mut space = io::buffer();
     let said: &mut [u8] = &mut space;
     let length = os::arg(index, said);

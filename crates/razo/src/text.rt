@@ -134,9 +134,10 @@ pub(crate) fn say(name: &[u8], named: bool, form: &[u8], numbers: &[u64]) -> boo
     write_lines(name, named, line, at)
 }
 
-// One line on standard error: a word that is wrong, with what stands before and after it. It gives the status.
+// One line on standard error: a word that is wrong, with what stands before and after it. It gives the status. There is
+// room for a file's name and a word of the file.
 pub(crate) fn complain(before: &[u8], said: &[u8], behind: &[u8]) -> u8 {
-    let mut space = [0u8; 4608];
+    let mut space = [0u8; 8704];
     let line: &mut [u8] = &mut space;
     let mut at = word(line, 0, before);
     at = word(line, at, said);

@@ -53,13 +53,17 @@ fn value_of(digits: &[u8]) -> Checked64 {
     number
 }
 
-pub(crate) fn word_of(said: &[u8]) -> Word {
-    let kind = kind_of(said);
-    if kind != 0 {
-        return Word::Operation(kind);
+fn operation_of(said: &[u8]) -> Word {
+    match kind_of(said) {
+        0 => Word::Neither,
+        kind => Word::Operation(kind),
     }
+}
+
+// Digits are looked for first: they are soon told, and a file has many numbers.
+pub(crate) fn word_of(said: &[u8]) -> Word {
     if !is_decimal(said) {
-        return Word::Neither;
+        return operation_of(said);
     }
     match value_of(said) {
         Checked64::Fits(number) => Word::Number(number),

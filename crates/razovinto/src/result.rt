@@ -2,7 +2,7 @@
 use checked::refusal::Refusal;
 use checked::types::Answer64;
 use checked::types::Checked64;
-use little::bytes::put_long;
+use store::bytes::put_long;
 ghost use mathlib.Core.Path.{_≡_};
 ghost use Prim.Native.Nat.{_≤_};
 ghost use lib.ListN.{length};

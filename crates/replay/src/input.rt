@@ -3,8 +3,8 @@ ghost use Prim.Native.Nat.{_≤_};
 ghost use lib.ListN.{length};
 ghost use Rattle.io.specs.Counts.{Counts};
 
-// The longest case: row 4 with its first byte, its count and as many bytes as a run of blocks has.
-const LONGEST: usize = 65541;
+// The longest case: row 9 with the fourteen bytes before its lists, and as many numbers and marks as it may have.
+const LONGEST: usize = 73742;
 
 // The bytes from `start` up to `end` are still to be used. `is_open` says that more may come.
 pub struct Window {

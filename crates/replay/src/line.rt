@@ -1,5 +1,6 @@
 // Lines of numbers. What is put waits in `out` up to a place; where little room is left it is written out first. A place past
 // the end of `out` says that a write failed, and nothing is put from there on.
+use crate::answers;
 use lines::put;
 
 // The longest number has 20 digits, and a space stands before it.
@@ -45,6 +46,17 @@ pub(crate) fn further(out: &mut [u8], at: usize, numbers: &[u64]) -> usize {
     let mut i = 0;
     while i < numbers.len() {
         after = next(out, after, numbers[i]);
+        i = i + 1;
+    }
+    after
+}
+
+// Further numbers that are bytes.
+pub(crate) fn further_bytes(out: &mut [u8], at: usize, bytes: &[u8]) -> usize {
+    let mut after = at;
+    let mut i = 0;
+    while i < bytes.len() {
+        after = next(out, after, answers::wide8(bytes[i]));
         i = i + 1;
     }
     after

@@ -15,6 +15,7 @@ mod scans;
 mod searches;
 mod types;
 mod values;
+mod writes;
 
 use input::Window;
 use types::Case;
@@ -28,7 +29,7 @@ struct State {
     goes_on: bool,
 }
 
-// A case that needs no lent list.
+// A case that is lent none of the lists that stay from case to case.
 fn replay_short(bytes: &[u8], row: u8, out: &mut [u8], at: usize) -> Case {
     match row {
         4 => searches::replay(bytes, out, at),
@@ -36,6 +37,7 @@ fn replay_short(bytes: &[u8], row: u8, out: &mut [u8], at: usize) -> Case {
         6 => divisions::replay(bytes, out, at),
         7 => power_fits::replay(bytes, out, at),
         8 => plain_numbers::replay(bytes, out, at),
+        9 => writes::replay(bytes, out, at),
         _ => Case::Malformed(Fault::UnknownRow),
     }
 }

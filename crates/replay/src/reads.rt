@@ -29,16 +29,6 @@ fn set_marks(marks: &mut [u8]) {
     }
 }
 
-fn put_marks(out: &mut [u8], at: usize, marks: &[u8]) -> usize {
-    let mut after = at;
-    let mut i = 0;
-    while i < marks.len() {
-        after = line::next(out, after, answers::wide8(marks[i]));
-        i = i + 1;
-    }
-    after
-}
-
 fn shown(answer: Read) -> [u64; 4] {
     match answer {
         Read::Values { number, count } => [0, 0, answers::wide32(number), count as u64],
@@ -59,7 +49,7 @@ fn put_reading(
     let answer = shown(read(block, numbers, marks));
     let at = line::start(out, at, &answer);
     let at = line::further(out, at, numbers);
-    let at = put_marks(out, at, marks);
+    let at = line::further_bytes(out, at, marks);
     line::end(out, at)
 }
 

@@ -1,7 +1,10 @@
 // What a case comes to.
 
-// The most elements that a list of a case has. The lists that cases are given to use have as many.
+// The most elements that a list of a case has, but for row 9. The lists that cases are given to use have as many.
 pub const MOST_ELEMENTS: usize = 4096;
+
+// The most elements that a list of row 9 has.
+pub const MOST_VALUES: usize = 8192;
 
 // The most bytes that a run of blocks has.
 pub const MOST_BYTES: usize = 65536;
@@ -14,7 +17,7 @@ pub enum Fault {
     TooLarge,
     // first byte that no row has
     UnknownRow,
-    // width, kind, mark or number that the row doesn't allow
+    // width, kind, mark, number or edition that the row doesn't allow
     NotAllowed,
 }
 

@@ -1,17 +1,17 @@
--- `reads::put_marks` is safe and ends. The measure is the number of elements left.
+-- `line::further_bytes` is safe and ends. The measure is the number of elements left.
 -- Assumes nothing.
 use borrow.Author.Needs.{needs}
 use mathlib.Core.Path.{_≡_}
 use Prim.Native.Nat.{_-_}
 use lib.ListN.{length}
-use Rattle.replay.proofs.reads.put_marks.Statement.{statement}
-use Rattle.replay.proofs.reads.put_marks.Tie as tie
+use Rattle.replay.proofs.line.further_bytes.Statement.{statement}
+use Rattle.replay.proofs.line.further_bytes.Tie as tie
 
 abbrev Inv-loop : tie.InvT-loop
-Inv-loop out₀ at marks after₀ i₀ out after i = length out ≡ length out₀
+Inv-loop out₀ at bytes after₀ i₀ out after i = length out ≡ length out₀
 
 abbrev μ-loop : tie.MeasureT-loop
-μ-loop out₀ at marks after₀ i₀ out after i = length marks - i
+μ-loop out₀ at bytes after₀ i₀ out after i = length bytes - i
 
 loop-holds : tie.Need-loop-holds Inv-loop μ-loop
 loop-holds c = search needs
@@ -40,8 +40,8 @@ same-length c = search needs
 returns : tie.Need-returns Inv-loop μ-loop
 returns c = search needs
 
-pub put-marks-spec : {M : Type 1} → statement M
-put-marks-spec =
+pub further-bytes-spec : {M : Type 1} → statement M
+further-bytes-spec =
     tie.close
     (tie.spec
     Inv-loop

@@ -1,28 +1,13 @@
--- `bytes::put_long` meets its contract: eight stores, one after the other, are the number's bytes.
+-- `bytes::store_long` meets its contract: eight stores, one after the other, are the number's bytes.
 -- Assumes nothing.
-use mathlib.Core.Path.{_≡_, refl, sym}
+use mathlib.Core.Path.{_≡_, refl}
 use Prim.Native.Nat.{suc, _+_}
 use native.Mathlib.Omega.{arith}
-use lib.ListN.{length-set}
-use Rattle.little.specs.Bytes.{bytesOf}
-use Rattle.little.proofs.Little.{length-bytes}
-use Rattle.little.proofs.Stored.{put-stored, put-nowhere}
 use borrow.Author.Needs.{needs}
-use Rattle.little.proofs.bytes.put_long.Statement.{statement}
-use Rattle.little.proofs.bytes.put_long.Tie as tie
-
-returns : tie.Need-returns
-returns c =
-    let g = c .before .args in
-    sym (put-nowhere (g .at) (bytesOf 8 (g .number)) (g .b .now) (omega (arith, length-bytes 8 (g .number))))
-
-sub-if2 : tie.Need-sub-if2
-sub-if2 c = search needs
-
-returns-2 : tie.Need-returns-2
-returns-2 c =
-    let g = c .before .before .args in
-    sym (put-nowhere (g .at) (bytesOf 8 (g .number)) (g .b .now) (omega (arith, length-bytes 8 (g .number))))
+use lib.ListN.{length-set}
+use Rattle.little.specs.Bytes.{bytesOf}
+use Rattle.store.proofs.bytes.store_long.Statement.{statement}
+use Rattle.store.proofs.bytes.store_long.Tie as tie
 
 cast-b : tie.Need-cast-b
 cast-b c = search needs
@@ -97,11 +82,10 @@ same-length : tie.Need-same-length
 same-length c = simp length-set refl
 
 -- a store's place, as the code and as a run of stores say it
-returns-3 : tie.Need-returns-3
+returns : tie.Need-returns
 unfolding bytesOf
-returns-3 c =
-    let g = c .before .before .args in
-    let at = g .at in
+returns c =
+    let at = c .args .at in
     let e1 : at + 1 ≡ suc at = omega arith in
     let e2 : at + 2 ≡ suc (suc at) = omega arith in
     let e3 : at + 3 ≡ suc (suc (suc at)) = omega arith in
@@ -109,15 +93,12 @@ returns-3 c =
     let e5 : at + 5 ≡ suc (suc (suc (suc (suc at)))) = omega arith in
     let e6 : at + 6 ≡ suc (suc (suc (suc (suc (suc at))))) = omega arith in
     let e7 : at + 7 ≡ suc (suc (suc (suc (suc (suc (suc at)))))) = omega arith in
-    simp (e1, e2, e3, e4, e5, e6, e7) (sym (put-stored at (bytesOf 8 (g .number)) (g .b .now) (omega arith)))
+    simp (e1, e2, e3, e4, e5, e6, e7)
 
-pub put-long-spec : {M : Type 1} → statement M
-put-long-spec =
+pub store-long-spec : {M : Type 1} → statement M
+store-long-spec =
     tie.close
     (tie.spec
-    returns
-    sub-if2
-    returns-2
     cast-b
     slice-write-b
     cast-b-2
@@ -142,4 +123,4 @@ put-long-spec =
     add-b-7
     slice-write-b-8
     same-length
-    returns-3)
+    returns)

@@ -1,0 +1,2 @@
+-- The definitions of this crate: how a block ends.
+pub mod Ending

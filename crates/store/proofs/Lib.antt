@@ -1,0 +1,2 @@
+-- `Promises` gathers what the functions promise.
+pub mod Promises
