@@ -10,7 +10,7 @@
 #include <time.h>
 
 enum { OURS, C, RUST, SIDES };
-enum { ROUNDS = 21, PAIRS = 2048, BLOCKS = 512, FIELD = 65536, RECIPES = 64, ITEMS = 255 };
+enum { ROUNDS = 21, PAIRS = 2048, BLOCKS = 512, VALUES = 55 * BLOCKS, FIELD = 65536, RECIPES = 64, ITEMS = 255 };
 
 static uint64_t state = 20261115;
 
@@ -111,6 +111,17 @@ static void any_field(void)
     for (int i = 0; i < FIELD; i++)
         field_numbers[i] = any_magnitude();
     memset(field_marks, 0, sizeof field_marks);
+}
+
+/* one value of eight is overflowed, at no regular places */
+static void marked_field(void)
+{
+    any_field();
+    for (int i = 0; i < FIELD; i++)
+        if (any() % 8 == 0) {
+            field_numbers[i] = 0;
+            field_marks[i] = 1;
+        }
 }
 
 /* every recipe is a first literal, then a literal and an operation in turn, as `literal` and `kind` give them for the i-th pair */
@@ -229,6 +240,26 @@ static void pass_read(function *f)
     }
 }
 
+/* the values of as many full blocks, in one call */
+static void pass_write(function *f)
+{
+    writer *entry = (writer *)f;
+    struct razovinto_written written;
+    sink += entry(7, field_numbers, VALUES, field_marks, VALUES, run_of_blocks, sizeof run_of_blocks, RAZOVINTO_ANSWER(written));
+    sink += written.length;
+}
+
+/* a field of one value, again and again */
+static void pass_write_one(function *f)
+{
+    writer *entry = (writer *)f;
+    struct razovinto_written written;
+    for (uint32_t b = 0; b < BLOCKS; b++) {
+        sink += entry(b, field_numbers + b, 1, field_marks + b, 1, run_of_blocks + 512 * b, 512, RAZOVINTO_ANSWER(written));
+        sink += written.length;
+    }
+}
+
 static void pass_search(function *f)
 {
     searcher *entry = (searcher *)f;
@@ -287,6 +318,33 @@ static void same_read(const char *what, function *f, function *g)
     }
 }
 
+/* as a call writes it to a run of so many bytes, and what is past them stays */
+static uint32_t write_to(function *f, uint8_t *run, size_t room, uint32_t first, size_t count, size_t marks, uint64_t *answer)
+{
+    memset(run, 9, sizeof run_of_blocks);
+    return ((writer *)f)(first, field_numbers, count, field_marks, marks, run, room, answer, 2);
+}
+
+/* with room and without, up to the largest block number and past it, with a mark too few and with a bad mark */
+static void same_write(const char *what, function *f, function *g)
+{
+    static const size_t counts[] = {0, 1, 54, 55, 56, 110, 111, VALUES};
+    static uint8_t one[sizeof run_of_blocks], other[sizeof run_of_blocks];
+    for (int i = 0; i < 8 * 16; i++) {
+        size_t count = counts[i / 16], blocks = (count + 54) / 55;
+        size_t room = 512 * blocks - (i % 2 && count > 0), marks = count - (i / 8 % 2 && count > 0);
+        uint32_t first = i / 2 % 2 ? (uint32_t)(0 - blocks) : (uint32_t)(1 - blocks);
+        uint64_t a[2], b[2];
+        uint8_t kept = field_marks[count / 2];
+        if (i / 4 % 2)
+            field_marks[count / 2] = 2;
+        uint32_t x = write_to(f, one, room, first, count, marks, a), y = write_to(g, other, room, first, count, marks, b);
+        field_marks[count / 2] = kept;
+        if (x != y || memcmp(a, b, sizeof a) != 0 || memcmp(one, other, sizeof one) != 0)
+            fail(what, i);
+    }
+}
+
 static void same_search(const char *what, function *f, function *g)
 {
     uint64_t a[4], b[4];
@@ -309,23 +367,26 @@ struct subject {
     double wanted_of_c, wanted_of_rust; /* 0: nothing is asked */
 };
 
-#define OPERATION(word) {(function *)razovinto_##word, (function *)c_##word, (function *)rust_##word}
+#define BESIDE_BOTH(word) {(function *)razovinto_##word, (function *)c_##word, (function *)rust_##word}
 #define BESIDE_C(ours, theirs) {(function *)ours, (function *)theirs, NULL}
 #define BESIDE_RUST(ours, theirs) {(function *)ours, NULL, (function *)theirs}
 
 static const struct subject subjects[] = {
-    {"sum", any_pairs, pass_operation, same_operation, OPERATION(sum), "call", PAIRS, 1.25, 0},
-    {"product", any_pairs, pass_operation, same_operation, OPERATION(product), "call", PAIRS, 0, 0},
-    {"quotient", any_pairs, pass_operation, same_operation, OPERATION(quotient), "call", PAIRS, 1.25, 0},
-    {"remainder", any_pairs, pass_operation, same_operation, OPERATION(remainder), "call", PAIRS, 0, 0},
-    {"power", power_pairs, pass_operation, same_operation, OPERATION(power), "call", PAIRS, 1.05, 1},
-    {"logarithm", logarithm_pairs, pass_operation, same_operation, OPERATION(logarithm), "call", PAIRS, 1.1, 1},
+    {"sum", any_pairs, pass_operation, same_operation, BESIDE_BOTH(sum), "call", PAIRS, 1.25, 0},
+    {"product", any_pairs, pass_operation, same_operation, BESIDE_BOTH(product), "call", PAIRS, 0, 0},
+    {"quotient", any_pairs, pass_operation, same_operation, BESIDE_BOTH(quotient), "call", PAIRS, 1.25, 0},
+    {"remainder", any_pairs, pass_operation, same_operation, BESIDE_BOTH(remainder), "call", PAIRS, 0, 0},
+    {"power", power_pairs, pass_operation, same_operation, BESIDE_BOTH(power), "call", PAIRS, 1.05, 1},
+    {"logarithm", logarithm_pairs, pass_operation, same_operation, BESIDE_BOTH(logarithm), "call", PAIRS, 1.1, 1},
     {"runner, five items", short_items, pass_short_run, same_run, BESIDE_C(razovinto_run, c_run), "call", RECIPES, 0, 0},
     {"runner, short items", short_items, pass_run, same_run, BESIDE_C(razovinto_run, c_run), "step", 0, 1.2, 0},
     {"runner, powers", power_items, pass_run, same_run, BESIDE_C(razovinto_run, c_run), "step", 0, 1.2, 0},
     {"runner, logarithms", logarithm_items, pass_run, same_run, BESIDE_C(razovinto_run, c_run), "step", 0, 1.2, 0},
     {"reader, 55 values", full_blocks, pass_read, same_read, BESIDE_RUST(razovinto_read, rust_read), "block", BLOCKS, 0, 0.5},
     {"reader, 1 value", short_blocks, pass_read, same_read, BESIDE_RUST(razovinto_read, rust_read), "block", BLOCKS, 0, 0.5},
+    {"writer, 55 values", any_field, pass_write, same_write, BESIDE_BOTH(write), "block", BLOCKS, 0, 0.5},
+    {"writer, 1 value", any_field, pass_write_one, same_write, BESIDE_BOTH(write), "block", BLOCKS, 0, 0.5},
+    {"writer, marked", marked_field, pass_write, same_write, BESIDE_BOTH(write), "block", BLOCKS, 0, 0.5},
     {"search, 55 values", full_blocks, pass_search, same_search, BESIDE_RUST(razovinto_search, rust_search), "block", BLOCKS, 0, 0.6},
     {"search, 1 value", short_blocks, pass_search, same_search, BESIDE_RUST(razovinto_search, rust_search), "block", BLOCKS, 0, 0.6},
     {"scan", any_field, pass_scan, same_scan, BESIDE_RUST(razovinto_scan, rust_scan), "value", FIELD, 0, 1.05},

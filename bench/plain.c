@@ -1,4 +1,4 @@
-/* The six operations and the recipe's machine in plain C, for the benchmark alone. */
+/* The six operations, the recipe's machine and the block writer in plain C, for the benchmark alone. */
 #include "../include/razovinto.h"
 #include "plain.h"
 
@@ -268,4 +268,46 @@ uint32_t c_run(uint64_t width, const uint8_t *kinds, size_t kinds_length, const 
         hand[held++] = v;
     }
     return answer(run, 0, 0, hand[0], steps);
+}
+
+static void lay(uint32_t number, const uint64_t *numbers, const uint8_t *marks, size_t count, uint8_t *block)
+{
+    memset(block, 0, 512);
+    memcpy(block, &number, 4);
+    block[4] = (uint8_t)count;
+    block[5] = 1;
+    memcpy(block + 8, numbers, 8 * count);
+    memcpy(block + 448, marks, count);
+    uint32_t check = 0;
+    for (uint32_t i = 0; i < 508; i++)
+        check += (i + 1) * block[i];
+    memcpy(block + 508, &check, 4);
+}
+
+uint32_t c_write(uint32_t first, const uint64_t *numbers, size_t numbers_length, const uint8_t *marks, size_t marks_length,
+                 uint8_t *run, size_t run_length, uint64_t *answer, size_t length)
+{
+    if (length < 2)
+        return 19;
+    answer[0] = answer[1] = 0;
+    if (numbers_length != marks_length)
+        return 6;
+    if (numbers_length == 0)
+        return 14;
+    for (size_t i = 0; i < numbers_length; i++)
+        if (marks[i] > 1 || (marks[i] == 1 && numbers[i] != 0)) {
+            answer[0] = i;
+            return 15;
+        }
+    size_t blocks = (numbers_length - 1) / 55 + 1;
+    if (run_length / 512 < blocks)
+        return 19;
+    if ((UINT64_C(1) << 32) - first < blocks)
+        return 21;
+    for (size_t p = 0; p < blocks; p++) {
+        size_t left = numbers_length - 55 * p;
+        lay(first + (uint32_t)p, numbers + 55 * p, marks + 55 * p, left < 55 ? left : 55, run + 512 * p);
+    }
+    answer[1] = 512 * blocks;
+    return 0;
 }

@@ -18,11 +18,14 @@ typedef uint32_t scanner(const uint64_t *numbers, size_t numbers_length, const u
                          size_t length);
 typedef uint32_t reader(const uint8_t *block, size_t block_length, uint64_t *numbers, size_t numbers_length, uint8_t *marks,
                         size_t marks_length, uint64_t *answer, size_t length);
+typedef uint32_t writer(uint32_t first, const uint64_t *numbers, size_t numbers_length, const uint8_t *marks, size_t marks_length,
+                        uint8_t *run, size_t run_length, uint64_t *answer, size_t length);
 typedef uint32_t searcher(const uint8_t *run, size_t run_length, uint64_t *answer, size_t length);
 
 runner c_run;
 scanner rust_scan;
 reader rust_read;
+writer c_write, rust_write;
 searcher rust_search;
 
 #endif

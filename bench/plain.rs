@@ -1,4 +1,4 @@
-//! The six operations by Rust's checked ones, and scan, reader and search by iterators, for the benchmark alone.
+//! The six operations by Rust's checked ones, and scan, reader, writer and search by iterators, for the benchmark alone.
 use std::slice::{from_raw_parts, from_raw_parts_mut};
 
 // ---- the six operations
@@ -118,13 +118,17 @@ fn number(block: &[u8], place: usize) -> u64 {
     u64::from_le_bytes(block[8 + 8 * place..16 + 8 * place].try_into().unwrap())
 }
 
+/// The sum that the check is to be.
+fn check_sum(block: &[u8]) -> u32 {
+    block[..508].iter().zip(1u32..).map(|(&byte, weight)| weight * byte as u32).sum()
+}
+
 /// The refusal's number, or 0.
 fn fault(block: &[u8]) -> u32 {
     if block.len() != 512 {
         return 16;
     }
-    let sum: u32 = block[..508].iter().zip(1u32..).map(|(&byte, weight)| weight * byte as u32).sum();
-    if sum != u32::from_le_bytes(block[508..].try_into().unwrap()) {
+    if check_sum(block) != u32::from_le_bytes(block[508..].try_into().unwrap()) {
         return 17;
     }
     let count = block[4] as usize;
@@ -178,6 +182,68 @@ fn read(block: &[u8], numbers: &mut [u64], marks: &mut [u8]) -> (u32, [u64; 3]) 
     marks[..count].copy_from_slice(&block[448..448 + count]);
     let own = u32::from_le_bytes(block[..4].try_into().unwrap());
     (0, [0, own as u64, count as u64])
+}
+
+#[no_mangle]
+pub unsafe extern "C" fn rust_write(
+    first: u32,
+    numbers: *const u64,
+    numbers_length: usize,
+    marks: *const u8,
+    marks_length: usize,
+    run: *mut u8,
+    run_length: usize,
+    answer: *mut u64,
+    length: usize,
+) -> u32 {
+    if length < 2 {
+        return 19;
+    }
+    let numbers = unsafe { from_raw_parts(numbers, numbers_length) };
+    let marks = unsafe { from_raw_parts(marks, marks_length) };
+    let run = unsafe { from_raw_parts_mut(run, run_length) };
+    let (code, written) = write(first, numbers, marks, run);
+    unsafe { *(answer as *mut [u64; 2]) = written };
+    code
+}
+
+/// The refusal's number or 0, and its place or the length written.
+fn write(first: u32, numbers: &[u64], marks: &[u8], run: &mut [u8]) -> (u32, [u64; 2]) {
+    if numbers.len() != marks.len() {
+        return (6, [0; 2]);
+    }
+    if numbers.is_empty() {
+        return (14, [0; 2]);
+    }
+    let badly_marked = |(&mark, &number): (&u8, &u64)| mark > 1 || (mark == 1 && number != 0);
+    if let Some(place) = marks.iter().zip(numbers).position(badly_marked) {
+        return (15, [place as u64, 0]);
+    }
+    let blocks = numbers.len().div_ceil(55);
+    if run.len() / 512 < blocks {
+        return (19, [0; 2]);
+    }
+    if first as u64 + blocks as u64 > 1 << 32 {
+        return (21, [0; 2]);
+    }
+    let values = numbers.chunks(55).zip(marks.chunks(55));
+    for ((block, (numbers, marks)), number) in run.chunks_exact_mut(512).zip(values).zip(first..=u32::MAX) {
+        lay(number, numbers, marks, block);
+    }
+    (0, [0, 512 * blocks as u64])
+}
+
+fn lay(number: u32, numbers: &[u64], marks: &[u8], block: &mut [u8]) {
+    block.fill(0);
+    block[..4].copy_from_slice(&number.to_le_bytes());
+    block[4] = numbers.len() as u8;
+    block[5] = 1;
+    for (bytes, number) in block[8..].chunks_exact_mut(8).zip(numbers) {
+        bytes.copy_from_slice(&number.to_le_bytes());
+    }
+    block[448..448 + marks.len()].copy_from_slice(marks);
+    let sum = check_sum(block);
+    block[508..].copy_from_slice(&sum.to_le_bytes());
 }
 
 #[no_mangle]
