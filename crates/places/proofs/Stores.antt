@@ -7,9 +7,9 @@ use Prim.Native.Nat.{ℕ, suc, _+_}
 use native.Mathlib.Numerals.{add-one}
 use native.Mathlib.Omega.{arith}
 use lib.ListN.{length, getD, set}
-use lib.Seq.{sets, ext-getD}
+use lib.Seq.{sets}
 use Rattle.places.specs.Places.{table}
-use Rattle.places.proofs.Tables.{length-table, table-at}
+use Rattle.places.proofs.Tables.{length-table, table-is}
 
 pub stored-on
     : (xs ys old : List ℕ) (at : ℕ) → sets old at (xs ++ ys) ≡ sets (sets old at xs) (at + length xs) ys
@@ -39,7 +39,4 @@ module _ (f : ℕ → ℕ) (at : ℕ) (old : List ℕ) where
 
 -- what stands at the places of a list is the list
 pub listed : (xs : List ℕ) (n : ℕ) → length xs ≡ n → table (λ i. getD xs i 0) n ≡ xs
-listed xs n e =
-    let l : length (table (λ i. getD xs i 0) n) ≡ length xs = length-table (λ i. getD xs i 0) n ∙ sym e in
-    ext-getD 0 (table (λ i. getD xs i 0) n) xs l
-    (λ i h. table-at (λ i. getD xs i 0) n i (omega (arith, length-table (λ i. getD xs i 0) n)))
+listed xs n e = table-is (λ i. getD xs i 0) xs n e (λ i h. refl)

@@ -6,7 +6,7 @@ use Prim.Native.Nat.{ℕ, zero, suc, _+_, _-_, _≤_, _<_}
 use native.Mathlib.Decide.{ℕ-discrete}
 use native.Mathlib.Omega.{arith}
 use lib.ListN.{length, getD, drop, set, length-append, length-drop, List·getD-append}
-use lib.Seq.{drop-cons, getD-drop, getD-at, set-at, getD-append-add}
+use lib.Seq.{drop-cons, getD-drop, getD-at, set-at, getD-append-add, ext-getD}
 use Rattle.places.specs.Places.{table, over}
 
 pub length-table : (f : ℕ → ℕ) (n : ℕ) → length (table f n) ≡ n
@@ -27,6 +27,14 @@ table-at f (suc n) j h =
           let l : j < length (table f n) = omega (arith, length-table f n) in
           List·getD-append (table f n) (f n ∷ []) 0 j l ∙ table-at f n j (omega arith)
     ]
+
+-- a list is known by what stands at its places
+pub table-is
+    : (f : ℕ → ℕ) (xs : List ℕ) (n : ℕ) → length xs ≡ n → ((i : ℕ) → i < n → f i ≡ getD xs i 0) → table f n ≡ xs
+table-is f xs n l e =
+    let t = length-table f n in
+    ext-getD 0 (table f n) xs (t ∙ sym l)
+    (λ i h. let k : i < n = omega arith in table-at f n i k ∙ e i k)
 
 -- ---- a list written over
 

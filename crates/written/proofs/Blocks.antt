@@ -3,13 +3,12 @@
 use mathlib.Core.Path.{_≡_, refl, ap, ap₂, sym, _∙_, subst}
 use mathlib.Core.Logic.{_⊎_, inl, inr}
 use mathlib.Core.List.{List, [], _∷_, _++_}
-use Prim.Native.Nat.{ℕ, zero, suc, _+_, _-_, _*_, _^_, _≤_, _<_}
+use Prim.Native.Nat.{ℕ, zero, suc, _+_, _-_, _*_, _≤_, _<_}
 use native.Mathlib.Decide.{decLt}
 use native.Mathlib.Omega.{arith}
 use lib.ListN.{length, getD, replicate, length-replicate, List·getD-eq-default}
-use lib.Seq.{ext-getD}
 use Rattle.places.specs.Places.{table}
-use Rattle.places.proofs.Tables.{length-table, table-at}
+use Rattle.places.proofs.Tables.{table-is}
 use Rattle.places.proofs.Totals.{total-same}
 use Rattle.little.specs.Bytes.{byteAt, Bytes, part, little, bytesOf, longs}
 use Rattle.little.proofs.Little.{length-bytes, bytes-below, little-bytes, part-at}
@@ -23,26 +22,9 @@ use Rattle.layout.specs.Told.{LaidOutAs}
 use Rattle.layout.specs.Sound.{faultAs}
 use Rattle.layout.proofs.Check.{check-below}
 use Rattle.layout.proofs.Layouts.{sound-exactly}
-use Rattle.written.specs.Block.{beforeCheck, blockOf, Writable}
+use Rattle.written.specs.Block.{beforeCheck, blockOf, Writable, Values}
 use Rattle.written.specs.Run.{numbersIn, marksIn}
 use Rattle.written.proofs.Sizes as sizes
-
--- what a block is to be made of: a number of four bytes, and values that the edition takes, numbers of eight bytes with
--- their marks
-pub record Values (E : Edition) (n : ℕ) (numbers marks : List ℕ) : Type 0 where
-  pub numbered : n < 2 ^ 32
-  pub counted : length numbers ≤ E .most
-  pub even : length marks ≡ length numbers
-  pub sized : (i : ℕ) → getD numbers i 0 < 2 ^ 64
-  pub marked : (i : ℕ) → i < length numbers → (getD marks i 0 ≡ 0) ⊎ ((getD marks i 0 ≡ 1) × (getD numbers i 0 ≡ 0))
-
--- a list is known by what stands at its places
-table-is
-    : (f : ℕ → ℕ) (xs : List ℕ) (n : ℕ) → length xs ≡ n → ((i : ℕ) → i < n → f i ≡ getD xs i 0) → table f n ≡ xs
-table-is f xs n l e =
-    let t = length-table f n in
-    ext-getD 0 (table f n) xs (t ∙ sym l)
-    (λ i h. let k : i < n = omega arith in table-at f n i k ∙ e i k)
 
 -- the sum for the check looks at the bytes before the check alone
 pub same-sum

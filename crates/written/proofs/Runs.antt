@@ -22,14 +22,13 @@ use Rattle.layout.specs.Sound.{faultAs}
 use Rattle.layout.specs.Runs.{blocks, blockAt}
 use Rattle.layout.proofs.Layouts.{sound-exactly}
 use Rattle.layout.proofs.Runs.{whole-run, blocks-are}
-use Rattle.written.specs.Block.{blockOf, Writable}
+use Rattle.written.specs.Block.{blockOf, Writable, Values}
 use Rattle.written.specs.Run.{blocksFor, heldAt, fieldBlock, runFor, numbersIn, marksIn, runNumbers, runMarks}
 use Rattle.written.specs.Run.{InOrder}
 use Rattle.written.specs.Writing.{GoodField, Sized}
 use Rattle.written.proofs.Counts as counts
 use Rattle.written.proofs.Sizes.{length-block}
 use Rattle.written.proofs.Blocks as blocks
-use Rattle.written.proofs.Blocks.{Values}
 use Rattle.written.proofs.Back.{written-again}
 
 -- ---- how long it is

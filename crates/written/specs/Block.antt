@@ -1,11 +1,13 @@
 -- The block of an edition that has a number and values: its bytes from the first to the last, by the places at which
 -- `layout` looks for them.
 -- Assumes nothing.
+use mathlib.Core.Path.{_≡_}
+use mathlib.Core.Logic.{_⊎_}
 use mathlib.Core.Bool.{Bool, cond, _&&_}
 use mathlib.Core.List.{List, [], _∷_, _++_}
-use Prim.Native.Nat.{ℕ, _-_, _*_, _<_}
+use Prim.Native.Nat.{ℕ, _-_, _*_, _^_, _≤_, _<_}
 use lib.Dec.{eqb, leb}
-use lib.ListN.{length, replicate}
+use lib.ListN.{length, getD, replicate}
 use Rattle.little.specs.Bytes.{Bytes, bytesOf, longs}
 use Rattle.layout.specs.Editions.{blockLength, marksAt, checkAt, Edition}
 use Rattle.layout.specs.Layout.{checkSum}
@@ -44,3 +46,14 @@ pub record Writable (E : Edition) : Type 0 where
   pub takes : 0 < E .most
   pub tagged : E .tag < 256
   pub headed : (numbers marks : List ℕ) → Bytes (E .head numbers marks)
+
+-- ---- in the words of the promises
+
+-- what a block is to be made of: a number of four bytes, and values that the edition takes, numbers of eight bytes with
+-- their marks
+pub record Values (E : Edition) (n : ℕ) (numbers marks : List ℕ) : Type 0 where
+  pub numbered : n < 2 ^ 32
+  pub counted : length numbers ≤ E .most
+  pub even : length marks ≡ length numbers
+  pub sized : (i : ℕ) → getD numbers i 0 < 2 ^ 64
+  pub marked : (i : ℕ) → i < length numbers → (getD marks i 0 ≡ 0) ⊎ ((getD marks i 0 ≡ 1) × (getD numbers i 0 ≡ 0))
