@@ -1,4 +1,5 @@
-! Razovinto for hosts written in Fortran: checked arithmetic on numbers of 64 bits, recipes, fields and blocks.
+! Razovinto for hosts written in Fortran: checked arithmetic on numbers of 64 bits, recipes, fields, blocks and levels
+! of raw floats.
 !
 ! Every function takes any input and asks nothing of it: where something is wrong, it gives a refusal's number, and 0
 ! otherwise. A lent list is an array and a count of elements. Nothing is kept from one call to the next, and several
@@ -15,20 +16,21 @@
 ! razovinto_signed_quotient and razovinto_signed_remainder take it as Fortran does. A byte from 128 on is below 0 too,
 ! and so is a block's number from 2**31 on where razovinto_write takes it: there -1_c_int32_t is 2**32 - 1.
 module razovinto
-    use, intrinsic :: iso_c_binding, only: c_int8_t, c_int32_t, c_int64_t, c_size_t
+    use, intrinsic :: iso_c_binding, only: c_float, c_int8_t, c_int32_t, c_int64_t, c_size_t
     implicit none
     private
     public :: razovinto_sum, razovinto_product, razovinto_quotient, razovinto_remainder, razovinto_power, &
         razovinto_logarithm, razovinto_number, razovinto_overflowed, razovinto_power_fits, razovinto_signed_quotient, &
         razovinto_signed_remainder, razovinto_run, razovinto_shape, razovinto_scan, razovinto_sound, razovinto_read, &
-        razovinto_write, razovinto_written_size, razovinto_search, razovinto_refusal_text
+        razovinto_write, razovinto_written_size, razovinto_search, razovinto_level_scan, razovinto_level_to_field, &
+        razovinto_refusal_text
 
     character(len=*), parameter, public :: &
-        razovinto_version = '4.1.0'
+        razovinto_version = '4.2.0'
     integer, parameter, public :: &
         razovinto_version_major = 4
     integer, parameter, public :: &
-        razovinto_version_minor = 1
+        razovinto_version_minor = 2
     integer, parameter, public :: &
         razovinto_version_patch = 0
 
@@ -90,6 +92,11 @@ module razovinto
     integer(c_size_t), parameter, public :: razovinto_read_length = 3
     integer(c_size_t), parameter, public :: razovinto_write_length = 2
     integer(c_size_t), parameter, public :: razovinto_search_length = 4
+    integer(c_size_t), parameter, public :: razovinto_level_scan_length = 1
+    integer(c_size_t), parameter, public :: razovinto_level_to_field_length = 1
+
+    ! How many floats a level's extent has: the least and the greatest reading.
+    integer(c_size_t), parameter, public :: razovinto_extent_length = 2
 
     ! Whether a recipe is well formed: the refusal's place, which is the item's index from 0, or how many items there
     ! are for 12 and 13; and the largest number of the width.
@@ -138,6 +145,14 @@ module razovinto
     ! whether there is one, 1 or 0; its block's position, and its place within the block, both from 0.
     type, bind(c), public :: razovinto_search_answer
         integer(c_int64_t) :: place, found, position, within
+    end type
+
+    ! Where a level was refused, or couldn't be turned into a field: the reading's index from 0 for 15, 22 and 23.
+    type, bind(c), public :: razovinto_level_scan_answer
+        integer(c_int64_t) :: place
+    end type
+    type, bind(c), public :: razovinto_level_to_field_answer
+        integer(c_int64_t) :: place
     end type
 
     ! Single operations. With 0 each of the first six has written sixteen bytes to `bytes`:
@@ -333,6 +348,42 @@ module razovinto
             integer(c_int8_t), intent(in) :: bytes(*)
             integer(c_size_t), value :: byte_count, length
             type(razovinto_search_answer), intent(inout) :: answer
+            integer(c_int32_t) :: refusal
+        end function
+
+        ! The least and the greatest reading of a level, to extent(1) and extent(2), each the earliest of those that are
+        ! equal to it, with its own bits. A level is two lists, readings and ground marks: a mark is 0 in air and 1
+        ! below ground. Readings under the ground count like the others. The order is that of sign and bits, the two
+        ! zeros being equal. Refused with razovinto_list_too_short where extent_count is below 2,
+        ! razovinto_lengths_differ, razovinto_field_empty; then at the earliest place that has a fault with
+        ! razovinto_bad_mark or, where the mark is 0 or 1, razovinto_unusable_reading for NaN and the infinities. The
+        ! extent stays as it is then.
+        function razovinto_level_scan(readings, reading_count, ground, ground_count, extent, extent_count, answer, &
+            length) bind(c, name='razovinto_level_scan') result(refusal)
+            import :: c_float, c_int8_t, c_int32_t, c_size_t, razovinto_level_scan_answer
+            real(c_float), intent(in) :: readings(*)
+            integer(c_int8_t), intent(in) :: ground(*)
+            real(c_float), intent(inout) :: extent(*)
+            integer(c_size_t), value :: reading_count, ground_count, extent_count, length
+            type(razovinto_level_scan_answer), intent(inout) :: answer
+            integer(c_int32_t) :: refusal
+        end function
+
+        ! A level turned into a field: the readings' values to numbers(1:reading_count), and 0 to as many marks; nothing
+        ! past them is written. Each reading must be a whole number from 0 to 16,777,215; negative zero gives 0. Refused
+        ! with razovinto_lengths_differ, razovinto_field_empty; then with razovinto_list_too_short where one of the two
+        ! lists has fewer elements than the level; then at the earliest place that has a fault with razovinto_bad_mark,
+        ! razovinto_unusable_reading or razovinto_not_whole, in this order at one place. The two lists stay as they are
+        ! then.
+        function razovinto_level_to_field(readings, reading_count, ground, ground_count, numbers, number_count, marks, &
+            mark_count, answer, length) bind(c, name='razovinto_level_to_field') result(refusal)
+            import :: c_float, c_int8_t, c_int32_t, c_int64_t, c_size_t, razovinto_level_to_field_answer
+            real(c_float), intent(in) :: readings(*)
+            integer(c_int8_t), intent(in) :: ground(*)
+            integer(c_int64_t), intent(inout) :: numbers(*)
+            integer(c_int8_t), intent(inout) :: marks(*)
+            integer(c_size_t), value :: reading_count, ground_count, number_count, mark_count, length
+            type(razovinto_level_to_field_answer), intent(inout) :: answer
             integer(c_int32_t) :: refusal
         end function
     end interface

@@ -1,4 +1,5 @@
-/* Razovinto for hosts written in C and C++: checked arithmetic on numbers of 64 bits, recipes, fields and blocks.
+/* Razovinto for hosts written in C and C++: checked arithmetic on numbers of 64 bits, recipes, fields, blocks
+ * and levels of raw floats.
  *
  * Every entry takes any input and asks nothing of it: where something is wrong, it returns a refusal's number, and 0
  * otherwise. A lent list is a pointer and a count of elements. An entry keeps nothing from one call to the next, and
@@ -12,9 +13,9 @@
 #include <stddef.h>
 #include <stdint.h>
 
-#define RAZOVINTO_VERSION "4.1.0"
+#define RAZOVINTO_VERSION "4.2.0"
 #define RAZOVINTO_VERSION_MAJOR 4
-#define RAZOVINTO_VERSION_MINOR 1
+#define RAZOVINTO_VERSION_MINOR 2
 #define RAZOVINTO_VERSION_PATCH 0
 
 /* The refusals. Not every one has an entry here that gives it yet. */
@@ -286,6 +287,50 @@ uint32_t razovinto_write(uint32_t first, const uint64_t *numbers, size_t number_
  * RAZOVINTO_BLOCK_LENGTH, at place 0, where the run's length is no multiple of 512; or with the first bad block's
  * refusal where no overflowed value comes before it. */
 uint32_t razovinto_search(const uint8_t *run, size_t run_length, uint64_t *answer, size_t length);
+
+/* ---- Levels
+ *
+ * A level is two lists, readings and ground marks: a mark is 0 in air and 1 below ground. A reading is any 32-bit
+ * float; NaN and the infinities aren't usable, and readings under the ground count like the others. The order of
+ * readings is that of sign and bits, the two zeros being equal.
+ */
+
+/* A level's least and greatest reading, each the earliest of those that are equal to it, with its own bits. */
+struct razovinto_extent {
+    float least;
+    float greatest;
+};
+
+/* A struct of floats as the two parameters of a lent list. */
+#define RAZOVINTO_FLOATS(floats) ((float *)&(floats)), (sizeof(floats) / sizeof(float))
+
+/* Where a level was refused. */
+struct razovinto_at {
+    uint64_t place; /* of the refusal: the reading's index for 15, 22 and 23, 0 otherwise */
+};
+
+/* The least and the greatest reading of a level, to extent[0] and extent[1]:
+ *
+ *     struct razovinto_extent extent;
+ *     struct razovinto_at at;
+ *     if (razovinto_level_scan(readings, count, ground, count, RAZOVINTO_FLOATS(extent), RAZOVINTO_ANSWER(at)) == 0)
+ *         printf("%g to %g\n", extent.least, extent.greatest);
+ *
+ * Refused with RAZOVINTO_LIST_TOO_SHORT where `extent` has fewer than two elements, RAZOVINTO_LENGTHS_DIFFER,
+ * RAZOVINTO_FIELD_EMPTY; then at the earliest place that has a fault with RAZOVINTO_BAD_MARK or, where the mark is 0 or
+ * 1, RAZOVINTO_UNUSABLE_READING. `extent` stays as it is then. */
+uint32_t razovinto_level_scan(const float *readings, size_t reading_count, const uint8_t *ground, size_t ground_count,
+                              float *extent, size_t extent_count, uint64_t *answer, size_t length);
+
+/* A level turned into a field: the readings' values to numbers[0] to numbers[reading_count - 1], and 0 to as many
+ * marks; nothing past them is written. Each reading must be a whole number from 0 to 16,777,215; negative zero gives 0.
+ * Refused with RAZOVINTO_LENGTHS_DIFFER, RAZOVINTO_FIELD_EMPTY; then with RAZOVINTO_LIST_TOO_SHORT where one of the two
+ * lists has fewer elements than the level; then at the earliest place that has a fault with RAZOVINTO_BAD_MARK,
+ * RAZOVINTO_UNUSABLE_READING or RAZOVINTO_NOT_WHOLE, in this order at one place. The two lists stay as they are
+ * then. */
+uint32_t razovinto_level_to_field(const float *readings, size_t reading_count, const uint8_t *ground,
+                                  size_t ground_count, uint64_t *numbers, size_t number_count, uint8_t *marks,
+                                  size_t mark_count, uint64_t *answer, size_t length);
 
 #ifdef __cplusplus
 }

@@ -1,4 +1,4 @@
-"""Razovinto from Python: checked arithmetic on numbers of 64 bits, recipes, fields and blocks.
+"""Razovinto from Python: checked arithmetic on numbers of 64 bits, recipes, fields, blocks and levels of raw floats.
 
 One file over the proved shared library, by ctypes; it needs CPython 3.9 or later and no package.
 
@@ -21,6 +21,10 @@ counts as its items in order. Everything else is copied number by number, and ea
 TypeError, a number below 0 or too large an OverflowError. So nothing is ever cast. A list that is written must be one
 that can be lent, since a copy would not reach the caller. Nobody may write to a lent list during a call.
 
+Readings are 32-bit floats, and lent with no copy where they are float32. Of other lists each is looked at and copied: a
+number that 32 bits don't hold exactly is a ValueError, so that nothing is rounded either. Bytes are no list of
+readings: memoryview(raw).cast("f") is the floats that lie in them.
+
 The library is looked for at RAZOVINTO_LIBRARY where that is set; otherwise in the tree that this file stands in, in
 the prefix that it was installed to, and wherever the machine's loader looks.
 """
@@ -34,13 +38,13 @@ import sys
 from array import array
 from typing import Any, Iterable, List, NamedTuple, Optional, Sequence, Tuple, Union
 
-__version__ = "4.1.0"
+__version__ = "4.2.0"
 
 __all__ = [
-    "BLOCK_SIZE", "BLOCK_VALUES", "Block", "Field", "Found", "KINDS", "OVERFLOWED", "Overflowed", "PLACES", "Range",
-    "Refusal", "Refused", "Run", "State", "WithinLogarithm", "WithinPower", "logarithm", "power", "power_fits",
-    "product", "quotient", "read", "read_run", "refusal_text", "remainder", "run", "scan", "search", "shape",
-    "signed_quotient", "signed_remainder", "sound", "sum", "write",
+    "BLOCK_SIZE", "BLOCK_VALUES", "Block", "Extent", "Field", "Found", "KINDS", "OVERFLOWED", "Overflowed", "PLACES",
+    "Range", "Refusal", "Refused", "Run", "State", "WithinLogarithm", "WithinPower", "level_scan", "level_to_field",
+    "logarithm", "power", "power_fits", "product", "quotient", "read", "read_run", "refusal_text", "remainder", "run",
+    "scan", "search", "shape", "signed_quotient", "signed_remainder", "sound", "sum", "write",
 ]
 
 BLOCK_SIZE = 512  # bytes of a block
@@ -216,6 +220,13 @@ class Range(NamedTuple):
     width: int
 
 
+class Extent(NamedTuple):
+    """A level's least and greatest reading, each the earliest of those that are equal to it; a zero keeps its sign."""
+
+    least: float
+    greatest: float
+
+
 class Field(NamedTuple):
     """A field as two lists: a mark is 0 where the number fits, 1 where it is overflowed and the number 0."""
 
@@ -294,6 +305,10 @@ class _WrittenAnswer(ctypes.Structure):
     _fields_ = [(name, ctypes.c_uint64) for name in ("place", "length")]
 
 
+class _LevelAnswer(ctypes.Structure):
+    _fields_ = [("place", ctypes.c_uint64)]
+
+
 class _FoundAnswer(ctypes.Structure):
     _fields_ = [(name, ctypes.c_uint64) for name in ("place", "found", "position", "within")]
 
@@ -318,6 +333,8 @@ _ENTRIES = {
     "razovinto_read": (*_LIST, *_LIST, *_LIST, *_LIST),
     "razovinto_write": (ctypes.c_uint32, *_LIST, *_LIST, *_LIST, *_LIST),
     "razovinto_search": (*_LIST, *_LIST),
+    "razovinto_level_scan": (*_LIST, *_LIST, *_LIST, *_LIST),
+    "razovinto_level_to_field": (*_LIST, *_LIST, *_LIST, *_LIST, *_LIST),
 }
 
 
@@ -393,6 +410,7 @@ class _Items(NamedTuple):
 
 _BYTES = _Items("B", 1, "Bc?", 255)
 _NUMBERS = _Items("Q", 8, "QL", _MOST)
+_FLOATS = _Items("f", 4, "f", 0)
 
 
 class _Buffer(ctypes.Structure):
@@ -462,17 +480,17 @@ def _view(given: Any, items: _Items) -> Optional[memoryview]:
     return view if alike and view.ndim and view.c_contiguous else None
 
 
-def _listed(name: str, given: Any) -> list:
+def _listed(name: str, given: Any, kinds: str = "buiO", what: str = "whole numbers") -> list:
     """What can be gone through as a list; a numpy array of several dimensions as its items in order."""
     numpy = sys.modules.get("numpy")
     if numpy is not None and isinstance(given, numpy.ndarray) and given.ndim:
-        if given.dtype.kind not in "buiO":
-            raise TypeError(f"{name} is an array of {given.dtype}, and must be one of whole numbers")
+        if given.dtype.kind not in kinds:
+            raise TypeError(f"{name} is an array of {given.dtype}, and must be one of {what}")
         return given.ravel().tolist()
     try:
         return list(given)
     except (TypeError, NotImplementedError):
-        raise TypeError(f"{name} is of the type {type(given).__name__}, which is no list of whole numbers") from None
+        raise TypeError(f"{name} is of the type {type(given).__name__}, which is no list of {what}") from None
 
 
 def _copied(name: str, given: Any, items: _Items) -> array:
@@ -486,13 +504,55 @@ def _copied(name: str, given: Any, items: _Items) -> array:
         raise
 
 
+def _real(value: Any) -> Any:
+    """A number that a float can be compared with exactly, or None: a float of any size, a Fraction, a Decimal; a whole
+    number as Python's own, since numpy rounds its own where they are compared."""
+    try:
+        return operator.index(value)
+    except TypeError:
+        return value if hasattr(type(value), "as_integer_ratio") else None
+
+
+def _shown(value: Any) -> str:
+    """A number in an error, where Python may refuse to write it."""
+    try:
+        return _said(value) if isinstance(value, int) else repr(value)
+    except ValueError:
+        return f"a number of the type {type(value).__name__}"
+
+
+def _float(name: str, place: int, value: Any) -> float:
+    """A number that 32 bits hold exactly; array would round one that they don't."""
+    real = value if type(value) is float else _real(value)
+    if real is None:
+        shown = "overflowed" if value is OVERFLOWED else repr(value)
+        raise TypeError(f"{name}[{place}] is {shown}, and must be a number")
+    try:
+        held = ctypes.c_float(real).value
+        exact = held == real or real != real
+    except (OverflowError, ValueError):  # larger than all floats, or the NaN that Decimal doesn't let be one
+        exact = False
+    if not exact:
+        raise ValueError(f"{name}[{place}] is {_shown(real)}, which no 32-bit float is")
+    return held
+
+
+def _copied_floats(name: str, given: Any) -> array:
+    """The list's numbers, each looked at, in an array of 32-bit floats. Bytes would be taken for whole numbers."""
+    if isinstance(given, (bytes, bytearray)) or isinstance(given, memoryview) and given.itemsize == 1:
+        raise TypeError(f"{name} is bytes, and must be numbers; memoryview({name}).cast('f') is the floats in them")
+    values = _listed(name, given, "buifO", "numbers")
+    return array("f", [_float(name, place, value) for place, value in enumerate(values)])
+
+
 def _lend(name: str, given: Any, items: _Items) -> _Lent:
     """Lends a list that is only read: its own memory where that can be, otherwise a copy."""
     if _is_masked(given):
         raise TypeError(f"{name} is a masked array, and its mask would be passed over")
     view = _view(given, items)
     if view is None:
-        return _Lent(name, memoryview(_copied(name, given, items)), items)
+        copy = _copied_floats(name, given) if items is _FLOATS else _copied(name, given, items)
+        return _Lent(name, memoryview(copy), items)
     lent = _Lent(name, view, items)
     if lent.aligned(items):
         return lent
@@ -851,3 +911,66 @@ def search(run: Any) -> Optional[Found]:
     if refusal:
         raise Refused(refusal, answer.place)
     return Found(answer.position, answer.within) if answer.found else None
+
+
+# ---- Levels
+
+
+def _ground(count: int, ground: Any) -> Any:
+    """The ground marks of so many readings; where none are given, all is air."""
+    return bytes(count) if ground is None else ground
+
+
+def _first(count: int, given: Any) -> Any:
+    """A lent list up to a count, in its own memory, so that both lists of a field are as long as the level."""
+    if len(given) == count:
+        return given
+    return (memoryview(given) if isinstance(given, (array, bytearray)) else given)[:count]
+
+
+def level_scan(readings: Any, ground: Any = None) -> Extent:
+    """The least and the greatest reading of a level.
+
+    A level is two lists, readings and ground marks: a mark is 0 in air and 1 below ground, and without marks all is
+    air. Readings under the ground count like the others. The two zeros are equal.
+
+    Refused with 6, lists that differ in length, then 14, a level without a reading; then at the earliest place that has
+    a fault with 15, a mark that isn't 0 or 1, or 22, a reading that is NaN or infinite.
+    """
+    answer, extent = _LevelAnswer(), (ctypes.c_float * 2)()
+    with _lend("readings", readings, _FLOATS) as lent_readings:
+        with _lend("ground", _ground(lent_readings.count, ground), _BYTES) as lent_ground:
+            lists = (*lent_readings.parameters, *lent_ground.parameters, extent, 2)
+            refusal = _library.razovinto_level_scan(*lists, *_answer(answer))
+    if refusal:
+        raise Refused(refusal, answer.place)
+    return Extent(*extent)
+
+
+def level_to_field(readings: Any, ground: Any = None, numbers: Any = None, marks: Any = None) -> Field:
+    """A level turned into a field: each reading's value, all marks 0. Negative zero gives 0.
+
+    Lists that are lent as `numbers` and `marks` are written up to the level's length, and stay as they are past it. The
+    answer has them up to that length: themselves, or of a longer one that part in its own memory. Where none is lent,
+    it has an array of numbers, or bytes of marks.
+
+    Refused with 6, lists that differ in length, 14, a level without a reading, 19, a lent list that is shorter than the
+    level; then at the earliest place that has a fault with 15, a mark that isn't 0 or 1, 22, a reading that is NaN or
+    infinite, or 23, one that is no whole number from 0 to 16,777,215. Lent lists stay as they are then.
+    """
+    answer = _LevelAnswer()
+    with _lend("readings", readings, _FLOATS) as lent_readings:
+        count = lent_readings.count
+        own_numbers = array("Q", [0]) * count if numbers is None else numbers
+        own_marks = bytearray(count) if marks is None else marks
+        with _lend("ground", _ground(count, ground), _BYTES) as lent_ground:
+            level = (*lent_readings.parameters, *lent_ground.parameters)
+            with _lend_to_write("numbers", own_numbers, _NUMBERS) as lent_numbers:
+                with _lend_to_write("marks", own_marks, _BYTES) as lent_marks:
+                    _see_apart(lent_readings, lent_numbers, lent_marks)
+                    _see_apart(lent_ground, lent_numbers, lent_marks)
+                    field = (*lent_numbers.parameters, *lent_marks.parameters)
+                    refusal = _library.razovinto_level_to_field(*level, *field, *_answer(answer))
+    if refusal:
+        raise Refused(refusal, answer.place)
+    return Field(_first(count, own_numbers), bytes(own_marks) if marks is None else _first(count, marks))

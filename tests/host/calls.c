@@ -18,17 +18,19 @@ static size_t need_of(enum entry entry)
 {
     static const size_t needs[] = {sizeof(struct razovinto_run), sizeof(struct razovinto_shape),
                                    sizeof(struct razovinto_range), sizeof(struct razovinto_block),
-                                   sizeof(struct razovinto_written), sizeof(struct razovinto_found)};
+                                   sizeof(struct razovinto_written), sizeof(struct razovinto_found),
+                                   sizeof(struct razovinto_at), sizeof(struct razovinto_at)};
     return needs[entry] / sizeof(uint64_t);
 }
 
 /* The lists of a call, lent. */
-struct lists { struct lent bytes, numbers, marks, answer; };
+struct lists { struct lent readings, bytes, numbers, marks, extent, answer; };
 
 static uint32_t called(const struct call *call, const struct lists *lists, size_t length)
 {
     void *bytes = start_of(&lists->bytes), *numbers = start_of(&lists->numbers);
     void *marks = start_of(&lists->marks), *answer = start_of(&lists->answer);
+    void *readings = start_of(&lists->readings), *extent = start_of(&lists->extent);
     switch (call->entry) {
     case RUN:
         return razovinto_run(call->width, bytes, call->byte_count, numbers, call->number_count, call->allowance, answer,
@@ -43,22 +45,32 @@ static uint32_t called(const struct call *call, const struct lists *lists, size_
     case WRITE:
         return razovinto_write(call->first, numbers, call->number_count, marks, call->mark_count, bytes,
                                call->byte_count, answer, length);
-    default:
+    case SEARCH:
         return razovinto_search(bytes, call->byte_count, answer, length);
+    case LEVEL_SCAN:
+        return razovinto_level_scan(readings, call->reading_count, bytes, call->byte_count, extent, call->extent_count,
+                                    answer, length);
+    default:
+        return razovinto_level_to_field(readings, call->reading_count, bytes, call->byte_count, numbers,
+                                        call->number_count, marks, call->mark_count, answer, length);
     }
 }
 
-/* One call, with lists between guards of so many bytes, and lists of bytes `shift` bytes off an aligned place. */
+/* One call, with lists between guards of so many bytes. Lists of bytes are `shift` bytes off an aligned place, and
+ * lists of floats four times as many. */
 static void expect_once(const char *what, const struct call *call, size_t length, size_t guard, size_t shift)
 {
     struct lists lists = {
+        lend(call->readings, call->reading_count * sizeof(float), guard + shift * sizeof(float)),
         lend(call->bytes, call->byte_count, guard + shift),
         lend(call->numbers, call->number_count * sizeof(uint64_t), guard),
         lend(call->marks, call->mark_count, guard + shift),
+        lend(NULL, call->extent_count * sizeof(float), guard + shift * sizeof(float)),
         lend(NULL, length * sizeof(uint64_t), guard),
     };
     size_t need = need_of(call->entry), values = length < need ? 0 : call->values;
     size_t blocks = length < need ? 0 : call->written, written = length < need ? 0 : need * sizeof(uint64_t);
+    size_t floats = length < need ? 0 : call->floats * sizeof(float);
     char where[256];
     snprintf(where, sizeof where, "%s, with %zu numbers for the answer, %zu guard bytes, lists of bytes %zu off", what,
              length, guard, shift);
@@ -71,9 +83,14 @@ static void expect_once(const char *what, const struct call *call, size_t length
         fail(where, "other values are written");
     if (blocks != 0 && memcmp(start_of(&lists.bytes), call->blocks, blocks) != 0)
         fail(where, "other blocks are written");
-    if (!stayed(&lists.bytes, blocks) || !stayed(&lists.numbers, values * sizeof(uint64_t))
-        || !stayed(&lists.marks, values) || !stayed(&lists.answer, written))
+    if (floats != 0 && memcmp(start_of(&lists.extent), call->extent, floats) != 0)
+        fail(where, "other floats are written, or their bits are others");
+    if (!stayed(&lists.readings, 0) || !stayed(&lists.bytes, blocks)
+        || !stayed(&lists.numbers, values * sizeof(uint64_t)) || !stayed(&lists.marks, values)
+        || !stayed(&lists.extent, floats) || !stayed(&lists.answer, written))
         fail(where, "a byte changed that must stay");
+    take_back(&lists.readings);
+    take_back(&lists.extent);
     take_back(&lists.bytes);
     take_back(&lists.numbers);
     take_back(&lists.marks);

@@ -43,9 +43,29 @@ static bool blocks()
     return razovinto_search(run, sizeof run, RAZOVINTO_ANSWER(found)) == 0 && found.found == 1 && found.within == 1;
 }
 
+static bool levels()
+{
+    const float readings[] = {271.5F, -0.0F, 300.0F, 2.5F};
+    const std::uint8_t ground[] = {0, 1, 0, 1};
+    razovinto_extent extent;
+    razovinto_at at;
+    std::uint64_t numbers[4];
+    std::uint8_t marks[4];
+    if (razovinto_level_scan(readings, 4, ground, 4, RAZOVINTO_FLOATS(extent), RAZOVINTO_ANSWER(at)) != 0)
+        return false;
+    if (std::memcmp(&extent.least, readings + 1, sizeof(float)) != 0 || extent.greatest != readings[2])
+        return false;
+    if (razovinto_level_to_field(readings + 1, 2, ground, 2, numbers, 4, marks, 4, RAZOVINTO_ANSWER(at)) != 0)
+        return false;
+    if (numbers[0] != 0 || numbers[1] != 300 || marks[0] != 0 || marks[1] != 0)
+        return false;
+    return razovinto_level_to_field(readings + 1, 3, ground, 3, numbers, 4, marks, 4, RAZOVINTO_ANSWER(at))
+        == RAZOVINTO_NOT_WHOLE && at.place == 2;
+}
+
 int main()
 {
     if (std::strcmp(razovinto_refusal_text(RAZOVINTO_OVERFLOWED), "overflowed operand") != 0)
         return 1;
-    return six() && answers() && blocks() ? 0 : 1;
+    return six() && answers() && blocks() && levels() ? 0 : 1;
 }

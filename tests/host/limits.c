@@ -1,10 +1,10 @@
 /* The entries beyond the six at their limits: the structs' layout, single numbers and fields here, recipes in
- * recipes.c, blocks in blocks.c. Ends with 1 at the first thing that is not as it must be.
+ * recipes.c, blocks in blocks.c, levels in levels.c. Ends with 1 at the first thing that is not as it must be.
  */
 #include "calls.h"
 #include "lent.h"
 
-/* Places in a struct, counted in numbers of 64 bits; a place between two numbers is no whole one. */
+/* Places in a struct, counted in numbers of 64 bits; a place between two numbers is no whole one, and a float half. */
 #define PLACE(answer, field) (offsetof(struct razovinto_##answer, field) / 8.0)
 #define COUNT(answer) (sizeof(struct razovinto_##answer) / 8.0)
 
@@ -48,6 +48,11 @@ static void check_layout(void)
         {"found.found", PLACE(found, found), 1},
         {"found.position", PLACE(found, position), 2},
         {"found.within", PLACE(found, within), 3},
+        {"at", COUNT(at), 1},
+        {"at.place", PLACE(at, place), 0},
+        {"extent", COUNT(extent), 1},
+        {"extent.least", PLACE(extent, least), 0},
+        {"extent.greatest", PLACE(extent, greatest), 0.5},
     };
     size_t i;
     for (i = 0; i < sizeof places / sizeof *places; i++)
@@ -158,6 +163,7 @@ int main(void)
     check_fields();
     check_recipes();
     check_blocks();
-    printf("limits: layout, power_fits, signed numbers, fields, recipes and blocks are as they must be\n");
+    check_levels();
+    printf("limits: layout, power_fits, signed numbers, fields, recipes, blocks and levels are as they must be\n");
     return 0;
 }

@@ -1,7 +1,7 @@
 ! The entries beyond the six at their limits, as a host written in Fortran calls them. Ends with 1 at the first thing
 ! that is not as it must be. The C test, limits.c, has more of the same.
 program limits
-    use, intrinsic :: iso_c_binding, only: c_int8_t, c_int32_t, c_int64_t, c_size_t
+    use, intrinsic :: iso_c_binding, only: c_float, c_int8_t, c_int32_t, c_int64_t, c_size_t
     use, intrinsic :: iso_fortran_env, only: error_unit
     use razovinto
     implicit none
@@ -14,6 +14,10 @@ program limits
     ! As many literals as no recipe may have, and their numbers.
     integer(c_int8_t), parameter :: literals(257) = razovinto_kind_literal
     integer(c_int64_t), parameter :: ones(257) = 1
+    ! Readings by their bits: 1, -1, the other zero, the largest number, infinity and NaN.
+    integer(c_int32_t), parameter :: one = int(z'3F800000', c_int32_t), minus_one = ibset(one, 31)
+    integer(c_int32_t), parameter :: minus_zero = ibset(0_c_int32_t, 31), largest = int(z'7F7FFFFF', c_int32_t)
+    integer(c_int32_t), parameter :: infinite = int(z'7F800000', c_int32_t), quiet_nan = ibset(infinite, 22)
 
     call check_layout()
     call check_power_fits()
@@ -25,7 +29,12 @@ program limits
     call check_blocks()
     call check_write()
     call check_search()
-    print '(a)', 'limits: layout, power_fits, signed numbers, fields, recipes and blocks are as they must be'
+    call check_level_scan()
+    call check_level_lengths()
+    call check_plateau()
+    call check_level_to_field()
+    call check_field_lengths()
+    print '(a)', 'limits: layout, power_fits, signed numbers, fields, recipes, blocks and levels are as they must be'
 
 contains
 
@@ -69,12 +78,16 @@ contains
         type(razovinto_read_answer) :: read
         type(razovinto_write_answer) :: write
         type(razovinto_search_answer) :: search
+        type(razovinto_level_scan_answer) :: level
+        type(razovinto_level_to_field_answer) :: field
         call expect(storage_size(shape) == 64 * razovinto_shape_length, 'the shape has its numbers')
         call expect(storage_size(run) == 64 * razovinto_run_length, 'the run has its numbers')
         call expect(storage_size(scan) == 64 * razovinto_scan_length, 'the range has its numbers')
         call expect(storage_size(read) == 64 * razovinto_read_length, "the block's head has its numbers")
         call expect(storage_size(write) == 64 * razovinto_write_length, 'what is written has its numbers')
         call expect(storage_size(search) == 64 * razovinto_search_length, 'what is found has its numbers')
+        call expect(storage_size(level) == 64 * razovinto_level_scan_length, "a level's answer has its number")
+        call expect(storage_size(field) == 64 * razovinto_level_to_field_length, "a level's field has its number")
         call expect(razovinto_block_size == 512 .and. razovinto_block_values == 55, 'the sizes of a block')
         shape = transfer(junk, shape)
         call expect(all([shape%place, shape%limit] == junk(:2)), "the order of a shape's numbers")
@@ -486,6 +499,188 @@ contains
             code = razovinto_search(bytes, size(bytes, kind=c_size_t), found(2), length)
             call expect(code == wanted(refusal, length, razovinto_search_length), 'what a search returns')
             call expect_answer(transfer(found, junk), int(expected, c_int64_t), length, 'a search')
+        end do
+    end subroutine
+
+    ! Levels. Readings stand as the bits of floats, so that no NaN and no zero changes on its way.
+
+    subroutine check_level_scan()
+        integer :: place, digit
+        integer(c_int32_t) :: level(5)
+        ! -1, 1, 0, the smallest number above 0 and the largest number.
+        call level_scan([minus_one, one, 0, 1, largest], [0, 1, 0, 1, 0], 2, 0, 0, [minus_one, largest])
+        call level_scan([one], [1], 2, 0, 0, [one, one])
+        call level_scan([0, minus_zero, 0], [0, 0, 0], 2, 0, 0, [0, 0])
+        call level_scan([minus_zero, 0], [0, 0], 2, 0, 0, [minus_zero, minus_zero])
+        call level_scan([one, 0, minus_zero], [0, 1, 0], 2, 0, 0, [0, one])
+        call level_scan([minus_one, minus_zero, 0], [0, 1, 0], 2, 0, 0, [minus_one, minus_zero])
+        call level_scan([ibset(2, 31), ibset(1, 31), 1, 2], [0, 0, 0, 0], 5, 0, 0, [ibset(2, 31), 2])
+        call level_scan([one], [2], 2, razovinto_bad_mark, 0, [0, 0])
+        call level_scan([one, quiet_nan], [0, 255], 2, razovinto_bad_mark, 1, [0, 0])
+        call level_scan([one, one], [0], 2, razovinto_lengths_differ, 0, [0, 0])
+        call level_scan([integer(c_int32_t) ::], [0], 2, razovinto_lengths_differ, 0, [0, 0])
+        call level_scan([integer(c_int32_t) ::], [integer ::], 2, razovinto_field_empty, 0, [0, 0])
+        ! Too short an extent comes before everything but too short an answer.
+        do place = 0, 1
+            call level_scan([one], [0], place, razovinto_list_too_short, 0, [0, 0])
+            call level_scan([quiet_nan, one], [2], place, razovinto_list_too_short, 0, [0, 0])
+        end do
+        ! NaN with each digit of its payload alone, and the infinities, of both signs.
+        do place = 0, 4, 2
+            do digit = -1, 22
+                level = one
+                level(place + 1) = infinite
+                if (digit >= 0) level(place + 1) = ibset(infinite, digit)
+                call level_scan(level, [0, 0, 0, 0, 0], 2, razovinto_unusable_reading, place, [0, 0])
+                level(place + 1) = ibset(level(place + 1), 31)
+                call level_scan(level, [1, 1, 1, 1, 1], 2, razovinto_unusable_reading, place, [0, 0])
+            end do
+        end do
+    end subroutine
+
+    ! A scan of a level to an extent of so many floats, with guards before and after.
+    subroutine level_scan(level, marks, room, refusal, place, extent)
+        integer(c_int32_t), intent(in) :: level(:), refusal, extent(2)
+        integer, intent(in) :: marks(:), room, place
+        type(razovinto_level_scan_answer) :: answers(3)
+        real(c_float) :: readings(size(level)), floats(0:room + 1)
+        integer(c_int8_t) :: ground(size(marks))
+        integer(c_int32_t) :: code, before(0:room + 1), expected(0:room + 1)
+        integer(c_size_t) :: length
+        readings = transfer(level, readings)
+        ground = as_bytes(marks)
+        before = quiet_nan + 5
+        do length = 0, razovinto_level_scan_length + 1
+            floats = transfer(before, floats)
+            expected = before
+            if (length >= razovinto_level_scan_length .and. refusal == 0) expected(1:2) = extent
+            answers = transfer(junk, answers, 3)
+            code = razovinto_level_scan(readings, size(readings, kind=c_size_t), ground, size(ground, kind=c_size_t), &
+                floats(1:), int(room, c_size_t), answers(2), length)
+            call expect(code == wanted(refusal, length, razovinto_level_scan_length), "what a level's scan returns")
+            call expect_answer(transfer(answers, junk), [int(place, c_int64_t)], length, "a level's scan")
+            call expect(all(transfer(floats, before) == expected), "the bits of a level's extent")
+            call expect(all(transfer(readings, level) == level), "the bits of a level's readings")
+        end do
+    end subroutine
+
+    pure function as_bytes(marks) result(bytes)
+        integer, intent(in) :: marks(:)
+        integer(c_int8_t) :: bytes(size(marks))
+        bytes = int(merge(marks - 256, marks, marks > 127), c_int8_t)
+    end function
+
+    ! Levels of each telling length, with what counts at the last place.
+    subroutine check_level_lengths()
+        integer, parameter :: lengths(5) = [2, 4095, 4096, 4097, 65536]
+        integer(c_int32_t), allocatable :: level(:)
+        integer, allocatable :: marks(:)
+        integer :: at, count
+        do at = 1, size(lengths)
+            count = lengths(at)
+            level = spread(one, 1, count)
+            marks = spread(0, 1, count)
+            level(count) = minus_one
+            call level_scan(level, marks, 2, 0, 0, [minus_one, one])
+            level(count) = largest
+            call level_scan(level, marks, 2, 0, 0, [one, largest])
+            level(count) = ibset(infinite, 0)
+            call level_scan(level, marks, 2, razovinto_unusable_reading, count - 1, [0, 0])
+            marks(count) = 2
+            call level_scan(level, marks, 2, razovinto_bad_mark, count - 1, [0, 0])
+        end do
+    end subroutine
+
+    ! The accident of version two: one NaN in a plateau of 65,536 readings, all others of which are equal, is named by
+    ! its place.
+    subroutine check_plateau()
+        integer, parameter :: places(5) = [0, 4095, 4096, 40000, 65535]
+        integer(c_int32_t), allocatable :: level(:)
+        integer, allocatable :: marks(:)
+        integer :: at
+        level = spread(transfer(258.125_c_float, one), 1, 65536)
+        marks = spread(1, 1, 65536)
+        call level_scan(level, marks, 2, 0, 0, [level(1), level(1)])
+        do at = 1, size(places)
+            level(places(at) + 1) = quiet_nan
+            call level_scan(level, marks, 2, razovinto_unusable_reading, places(at), [0, 0])
+            level(places(at) + 1) = level(modulo(places(at) + 1, 65536) + 1)
+        end do
+    end subroutine
+
+    subroutine check_level_to_field()
+        real(c_float), parameter :: whole(8) = [0.0_c_float, 1.0_c_float, 2.0_c_float, 255.0_c_float, &
+            8388607.0_c_float, 8388608.0_c_float, 16777214.0_c_float, 16777215.0_c_float]
+        real(c_float), parameter :: others(9) = [16777216.0_c_float, 0.5_c_float, 8388607.5_c_float, -1.0_c_float, &
+            1.5_c_float, -16777215.0_c_float, 4294967296.0_c_float, tiny(0.0_c_float), huge(0.0_c_float)]
+        integer(c_int32_t) :: level(3)
+        integer :: at
+        call level_to_field(transfer(whole, [one]), [0, 1, 0, 1, 0, 1, 0, 1], 8, 8, 0, 0)
+        call level_to_field([minus_zero, 0, minus_zero], [0, 0, 1], 4, 3, 0, 0)
+        do at = 1, size(others)
+            level = transfer([16777215.0_c_float, others(at), 0.0_c_float], level)
+            call level_to_field(level, [0, 1, 0], 3, 4, razovinto_not_whole, 1)
+            call level_to_field(level, [0, 2, 0], 3, 4, razovinto_bad_mark, 1)
+            call level_to_field(level, [0, 1, 0], 2, 3, razovinto_list_too_short, 0)
+            level(1) = ibset(infinite, 31)
+            call level_to_field(level, [0, 1, 0], 3, 3, razovinto_unusable_reading, 0)
+        end do
+        call level_to_field([one, one], [0], 0, 0, razovinto_lengths_differ, 0)
+        call level_to_field([integer(c_int32_t) ::], [integer ::], 0, 0, razovinto_field_empty, 0)
+    end subroutine
+
+    ! Fields of each telling length, and lists that are one too short.
+    subroutine check_field_lengths()
+        integer, parameter :: lengths(6) = [1, 5, 4095, 4096, 4097, 65536]
+        integer(c_int32_t), allocatable :: level(:)
+        integer, allocatable :: marks(:)
+        integer :: at, count
+        do at = 1, size(lengths)
+            count = lengths(at)
+            level = spread(one, 1, count)
+            marks = spread(1, 1, count)
+            level(count) = transfer(16777215.0_c_float, one)
+            call level_to_field(level, marks, count, count, 0, 0)
+            call level_to_field(level, marks, count + 1, count + 2, 0, 0)
+            call level_to_field(level, marks, count - 1, count, razovinto_list_too_short, 0)
+            call level_to_field(level, marks, count, count - 1, razovinto_list_too_short, 0)
+            level(count) = quiet_nan
+            call level_to_field(level, marks, count, count, razovinto_unusable_reading, count - 1)
+        end do
+    end subroutine
+
+    ! A level turned into a field in lists of so many elements, with guards before and after.
+    subroutine level_to_field(level, marks, room_numbers, room_marks, refusal, place)
+        integer(c_int32_t), intent(in) :: level(:), refusal
+        integer, intent(in) :: marks(:), room_numbers, room_marks, place
+        type(razovinto_level_to_field_answer) :: answers(3)
+        real(c_float) :: readings(size(level))
+        integer(c_int8_t) :: ground(size(marks)), field_marks(0:room_marks + 1), expected_marks(0:room_marks + 1)
+        integer(c_int64_t) :: numbers(0:room_numbers + 1), expected(0:room_numbers + 1)
+        integer(c_int32_t) :: code
+        integer(c_size_t) :: length
+        integer :: count
+        count = merge(size(level), 0, refusal == 0)
+        readings = transfer(level, readings)
+        ground = as_bytes(marks)
+        do length = 0, razovinto_level_to_field_length + 1
+            numbers = 7777777
+            field_marks = 9
+            expected = numbers
+            expected_marks = field_marks
+            if (length >= razovinto_level_to_field_length) then
+                expected(1:count) = int(readings(:count), c_int64_t)
+                expected_marks(1:count) = 0
+            end if
+            answers = transfer(junk, answers, 3)
+            code = razovinto_level_to_field(readings, size(readings, kind=c_size_t), ground, &
+                size(ground, kind=c_size_t), numbers(1:), int(room_numbers, c_size_t), field_marks(1:), &
+                int(room_marks, c_size_t), answers(2), length)
+            call expect(code == wanted(refusal, length, razovinto_level_to_field_length), 'what the turning returns')
+            call expect_answer(transfer(answers, junk), [int(place, c_int64_t)], length, "a level's field")
+            call expect(all(numbers == expected), "the numbers of a level's field")
+            call expect(all(field_marks == expected_marks), "the marks of a level's field")
+            call expect(all(transfer(readings, level) == level), "the bits of a level's readings that are turned")
         end do
     end subroutine
 

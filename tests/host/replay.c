@@ -26,7 +26,8 @@ static struct {
     int row, kind;
     uint32_t first;
     uint64_t width, allowance, left, right;
-    size_t byte_count, number_count, mark_count;
+    size_t reading_count, byte_count, number_count, mark_count;
+    uint32_t readings[FIELD]; /* the floats' bits: no float is ever loaded here, which might change a NaN */
     uint8_t bytes[RUN];
     uint64_t numbers[FIELD];
     uint8_t marks[FIELD];
@@ -93,16 +94,22 @@ static void take_field(void)
     take_bytes(given.marks, given.mark_count);
 }
 
-static void take_block(void)
+/* What the lists that a case's values go to have before the call. */
+static void fill_lists(uint8_t mark)
 {
     size_t i;
+    for (i = 0; i < given.number_count; i++)
+        given.numbers[i] = number_before;
+    memset(given.marks, mark, given.mark_count);
+}
+
+static void take_block(void)
+{
     given.byte_count = take_count(2, LIST);
     given.number_count = take_count(2, LIST);
     given.mark_count = take_count(2, LIST);
     take_bytes(given.bytes, given.byte_count);
-    for (i = 0; i < given.number_count; i++)
-        given.numbers[i] = number_before;
-    memset(given.marks, mark_before, given.mark_count);
+    fill_lists(mark_before);
 }
 
 static void take_operation(void)
@@ -146,6 +153,32 @@ static void take_writing(void)
     memset(given.bytes, byte_before, given.byte_count);
 }
 
+/* The readings and the ground marks, which stand in `bytes`. */
+static void take_level(void)
+{
+    size_t i;
+    for (i = 0; i < given.reading_count; i++)
+        given.readings[i] = (uint32_t)take(4);
+    take_bytes(given.bytes, given.byte_count);
+}
+
+static void take_level_scan(void)
+{
+    given.reading_count = take_count(2, FIELD);
+    given.byte_count = take_count(2, FIELD);
+    take_level();
+}
+
+static void take_level_to_field(void)
+{
+    given.reading_count = take_count(2, FIELD);
+    given.byte_count = take_count(2, FIELD);
+    given.number_count = take_count(2, FIELD);
+    given.mark_count = take_count(2, FIELD);
+    take_level();
+    fill_lists(byte_before);
+}
+
 /* Reads a case; 0 at the end. */
 static int take_case(void)
 {
@@ -179,6 +212,12 @@ static int take_case(void)
         break;
     case 9:
         take_writing();
+        break;
+    case 10:
+        take_level_scan();
+        break;
+    case 11:
+        take_level_to_field();
         break;
     default:
         stop(2, "no entry for its first byte");
@@ -215,6 +254,29 @@ static void answer_back(struct lent *lent, void *answer)
 static struct lent lend_bytes(const void *list, size_t size, size_t guard)
 {
     return lend(list, size, guard == 0 ? 0 : guard + case_number % 8);
+}
+
+/* A list of floats by their bits; between guards it stands at another multiple of four bytes in each case. */
+static struct lent lend_floats(const uint32_t *bits, size_t count, size_t guard)
+{
+    return lend(bits, count * sizeof(float), guard == 0 ? 0 : guard + sizeof(float) * (case_number % 4));
+}
+
+static void put_numbers(const struct lent *numbers)
+{
+    uint64_t number;
+    size_t i;
+    for (i = 0; i < given.number_count; i++) {
+        memcpy(&number, (uint8_t *)start_of(numbers) + 8 * i, 8);
+        put(number);
+    }
+}
+
+static void put_bytes(const struct lent *bytes, size_t count)
+{
+    size_t i;
+    for (i = 0; i < count; i++)
+        put(((uint8_t *)start_of(bytes))[i]);
 }
 
 /* Calling the entries */
@@ -318,8 +380,6 @@ static void call_read(size_t guard)
     struct lent marks = lend_bytes(given.marks, given.mark_count, guard);
     struct lent lent = lend(NULL, sizeof(struct razovinto_block), guard);
     struct razovinto_block read;
-    uint64_t number;
-    size_t i;
     uint32_t code = razovinto_read(start_of(&block), given.byte_count, start_of(&numbers), given.number_count,
                                    start_of(&marks), given.mark_count, start_of(&lent), sizeof read / 8);
     answer_back(&lent, &read);
@@ -328,12 +388,8 @@ static void call_read(size_t guard)
     put(read.place);
     put(read.number);
     put(read.count);
-    for (i = 0; i < given.number_count; i++) {
-        memcpy(&number, (uint8_t *)start_of(&numbers) + 8 * i, 8);
-        put(number);
-    }
-    for (i = 0; i < given.mark_count; i++)
-        put(((uint8_t *)start_of(&marks))[i]);
+    put_numbers(&numbers);
+    put_bytes(&marks, given.mark_count);
     if (read.count > given.number_count || read.count > given.mark_count)
         stop(1, "a count above the room that there is");
     back(&block, 0);
@@ -397,19 +453,126 @@ static void call_write(size_t guard)
     struct lent run = lend_bytes(given.bytes, given.byte_count, guard);
     struct lent lent = lend(NULL, sizeof(struct razovinto_written), guard);
     struct razovinto_written written;
-    size_t i;
     put(razovinto_write(given.first, start_of(&numbers), given.number_count, start_of(&marks), given.mark_count,
                         start_of(&run), given.byte_count, start_of(&lent), sizeof written / 8));
     answer_back(&lent, &written);
     put(written.place);
     put(written.length);
-    for (i = 0; i < given.byte_count; i++)
-        put(((uint8_t *)start_of(&run))[i]);
+    put_bytes(&run, given.byte_count);
     if (written.length > given.byte_count)
         stop(1, "a length above the room that there is");
     back(&numbers, 0);
     back(&marks, 0);
     back(&run, written.length);
+}
+
+/* A reading that is given back must be one of the level's, by its bits. */
+static void put_reading(const struct lent *extent, size_t place)
+{
+    uint32_t bits;
+    size_t i = 0;
+    memcpy(&bits, (uint8_t *)start_of(extent) + sizeof(float) * place, sizeof bits);
+    while (i < given.reading_count && given.readings[i] != bits)
+        i++;
+    if (i == given.reading_count)
+        stop(1, "bits that no reading of the level has");
+    put(bits);
+}
+
+/* Whatever the level is: without room for an answer nothing is written, and without room for the extent the place 0. */
+static void call_short_level_scan(size_t guard)
+{
+    struct lent readings = lend_floats(given.readings, given.reading_count, guard);
+    struct lent ground = lend_bytes(given.bytes, given.byte_count, guard);
+    size_t length, room;
+    for (length = 0; length < 2; length++)
+        for (room = 0; room + length < 3; room++) {
+            struct lent extent = lend_floats(NULL, room, guard), lent = lend(NULL, length * 8, guard);
+            uint64_t place = 0;
+            if (razovinto_level_scan(start_of(&readings), given.reading_count, start_of(&ground), given.byte_count,
+                                     start_of(&extent), room, start_of(&lent), length) != RAZOVINTO_LIST_TOO_SHORT)
+                stop(1, "a list is too short, and not refused with 19");
+            if (length != 0)
+                memcpy(&place, start_of(&lent), sizeof place);
+            if (place != 0)
+                stop(1, "another place than 0 with too short an extent");
+            back(&extent, 0);
+            back(&lent, length * 8);
+        }
+    back(&readings, 0);
+    back(&ground, 0);
+}
+
+/* The extent has room for up to two floats more than it needs. */
+static void call_level_scan(size_t guard)
+{
+    size_t room = 2 + case_number % 3;
+    struct lent readings = lend_floats(given.readings, given.reading_count, guard);
+    struct lent ground = lend_bytes(given.bytes, given.byte_count, guard);
+    struct lent extent = lend_floats(NULL, room, guard);
+    struct lent lent = lend(NULL, sizeof(struct razovinto_at), guard);
+    struct razovinto_at at;
+    uint32_t code = razovinto_level_scan(start_of(&readings), given.reading_count, start_of(&ground), given.byte_count,
+                                         start_of(&extent), room, start_of(&lent), sizeof at / 8);
+    call_short_level_scan(guard);
+    answer_back(&lent, &at);
+    put(code);
+    put(at.place);
+    if (code == 0) {
+        put_reading(&extent, 0);
+        put_reading(&extent, 1);
+    } else {
+        put(0);
+        put(0);
+    }
+    back(&readings, 0);
+    back(&ground, 0);
+    back(&extent, code ? 0 : sizeof(struct razovinto_extent));
+}
+
+/* Whatever the level is: without room for an answer nothing is written. */
+static void call_unanswered_level_to_field(size_t guard)
+{
+    struct lent readings = lend_floats(given.readings, given.reading_count, guard);
+    struct lent ground = lend_bytes(given.bytes, given.byte_count, guard);
+    struct lent numbers = lend(given.numbers, given.number_count * 8, guard);
+    struct lent marks = lend_bytes(given.marks, given.mark_count, guard);
+    struct lent lent = lend(NULL, 0, guard);
+    if (razovinto_level_to_field(start_of(&readings), given.reading_count, start_of(&ground), given.byte_count,
+                                 start_of(&numbers), given.number_count, start_of(&marks), given.mark_count,
+                                 start_of(&lent), 0) != RAZOVINTO_LIST_TOO_SHORT)
+        stop(1, "there is no list for the answer, and it isn't refused with 19");
+    back(&readings, 0);
+    back(&ground, 0);
+    back(&numbers, 0);
+    back(&marks, 0);
+    back(&lent, 0);
+}
+
+static void call_level_to_field(size_t guard)
+{
+    struct lent readings = lend_floats(given.readings, given.reading_count, guard);
+    struct lent ground = lend_bytes(given.bytes, given.byte_count, guard);
+    struct lent numbers = lend(given.numbers, given.number_count * 8, guard);
+    struct lent marks = lend_bytes(given.marks, given.mark_count, guard);
+    struct lent lent = lend(NULL, sizeof(struct razovinto_at), guard);
+    struct razovinto_at at;
+    uint32_t code = razovinto_level_to_field(start_of(&readings), given.reading_count, start_of(&ground),
+                                             given.byte_count, start_of(&numbers), given.number_count,
+                                             start_of(&marks), given.mark_count, start_of(&lent), sizeof at / 8);
+    size_t written = code ? 0 : given.reading_count;
+    call_unanswered_level_to_field(guard);
+    answer_back(&lent, &at);
+    put(code);
+    put(at.place);
+    put_numbers(&numbers);
+    put_bytes(&marks, given.mark_count);
+    if (written > given.number_count || written > given.mark_count)
+        stop(1, "a level that there is no room for");
+    back(&readings, 0);
+    back(&ground, 0);
+    back(&numbers, written * 8);
+    back(&marks, written);
 }
 
 /* The case's line, from lists between guards of so many bytes. */
@@ -437,6 +600,12 @@ static void call(size_t guard)
         break;
     case 9:
         call_write(guard);
+        break;
+    case 10:
+        call_level_scan(guard);
+        break;
+    case 11:
+        call_level_to_field(guard);
         break;
     default:
         put(razovinto_power_fits(given.left, given.right));

@@ -6,7 +6,7 @@
 ! CASES is a file of tests/second/hosts.py. Every list is lent between guard elements, and every element that must stay
 ! is looked at. Ends with 1 where an entry does what it must not, and with 2 where CASES can't be read.
 program replay
-    use, intrinsic :: iso_c_binding, only: c_int8_t, c_int32_t, c_int64_t, c_size_t
+    use, intrinsic :: iso_c_binding, only: c_float, c_int8_t, c_int32_t, c_int64_t, c_size_t
     use, intrinsic :: iso_fortran_env, only: error_unit, iostat_end, output_unit
     use razovinto
     implicit none
@@ -111,6 +111,30 @@ contains
             list(at) = razovinto_number(bytes(8 * at - 7:8 * at))
         end do
     end subroutine
+
+    ! A list of floats between guards, read from the file by their bits.
+    subroutine take_reading_list(count, list)
+        integer(c_size_t), intent(in) :: count
+        real(c_float), allocatable, intent(out) :: list(:)
+        integer(c_int32_t), allocatable :: bits(:)
+        integer :: at
+        allocate (bits(1 - guard:count + guard))
+        do at = lbound(bits, 1), ubound(bits, 1)
+            bits(at) = 1000003 * at
+        end do
+        do at = 1, int(count)
+            bits(at) = as_32_digits(taken(4))
+        end do
+        allocate (list(1 - guard:count + guard))
+        list = transfer(bits, list)
+    end subroutine
+
+    ! The bits of floats, by which they are compared: a NaN is equal to nothing, and the two zeros are equal.
+    pure function bits_of(list) result(bits)
+        real(c_float), intent(in) :: list(:)
+        integer(c_int32_t) :: bits(size(list))
+        bits = transfer(list, bits)
+    end function
 
     ! A list of so many equal bytes between guards.
     subroutine lend_bytes(count, byte, list)
@@ -218,6 +242,10 @@ contains
             call call_power_fits()
         case (9)
             call call_write()
+        case (10)
+            call call_level_scan()
+        case (11)
+            call call_level_to_field()
         case default
             call halt('no entry for its first byte', .true.)
         end select
@@ -398,6 +426,96 @@ contains
         call put(written(2)%length)
         do at = 1, int(byte_count)
             call put_byte(bytes(at))
+        end do
+    end subroutine
+
+    subroutine call_level_scan()
+        integer(c_size_t) :: reading_count, ground_count
+        real(c_float), allocatable :: readings(:)
+        real(c_float) :: extent(5)
+        integer(c_int32_t), allocatable :: readings_before(:)
+        integer(c_int8_t), allocatable :: ground(:), ground_before(:)
+        integer(c_int32_t) :: extent_before(5), extent_bits(5), refusal
+        type(razovinto_level_scan_answer) :: level(3)
+        integer(c_size_t) :: room
+        integer :: at
+        reading_count = taken_count(2, longest_field)
+        ground_count = taken_count(2, longest_field)
+        call take_reading_list(reading_count, readings)
+        call take_byte_list(ground_count, ground)
+        readings_before = bits_of(readings)
+        ground_before = ground
+        extent_before = int(junk(:5), c_int32_t)
+        extent = transfer(extent_before, extent)
+        level = transfer(junk, level, 3)
+        ! Whatever the level is: without room for an answer nothing is written, and without room for the extent place 0.
+        refusal = razovinto_level_scan(readings(1), reading_count, ground(1), ground_count, extent(2), &
+            razovinto_extent_length, level(2), 0_c_size_t)
+        call expect(refusal == razovinto_list_too_short .and. level(2)%place == junk(2))
+        do room = 0, razovinto_extent_length - 1
+            refusal = razovinto_level_scan(readings(1), reading_count, ground(1), ground_count, extent(2), room, &
+                level(2), razovinto_level_scan_length)
+            call expect(refusal == razovinto_list_too_short .and. level(2)%place == 0)
+            call expect(all(bits_of(extent) == extent_before))
+        end do
+        ! The extent has room for one float more than it needs in every second case.
+        room = razovinto_extent_length + mod(case_number, 2)
+        refusal = razovinto_level_scan(readings(1), reading_count, ground(1), ground_count, extent(2), room, level(2), &
+            razovinto_level_scan_length)
+        call expect(all(bits_of(readings) == readings_before) .and. all(ground == ground_before))
+        call expect_neighbours(transfer(level, junk))
+        extent_bits = bits_of(extent)
+        call expect(extent_bits(1) == extent_before(1) .and. all(extent_bits(4:) == extent_before(4:)))
+        if (refusal /= 0) call expect(all(extent_bits == extent_before))
+        call put_refusal(refusal)
+        call put(level(2)%place)
+        do at = 2, 3
+            call put(merge(iand(int(extent_bits(at), c_int64_t), 4294967295_c_int64_t), 0_c_int64_t, refusal == 0))
+        end do
+    end subroutine
+
+    subroutine call_level_to_field()
+        integer(c_size_t) :: reading_count, ground_count, number_count, mark_count, count
+        real(c_float), allocatable :: readings(:)
+        integer(c_int32_t), allocatable :: readings_before(:)
+        integer(c_int8_t), allocatable :: ground(:), ground_before(:), marks(:), marks_before(:)
+        integer(c_int64_t), allocatable :: numbers(:), numbers_before(:)
+        type(razovinto_level_to_field_answer) :: field(3)
+        integer(c_int32_t) :: refusal
+        integer :: at
+        reading_count = taken_count(2, longest_field)
+        ground_count = taken_count(2, longest_field)
+        number_count = taken_count(2, longest_field)
+        mark_count = taken_count(2, longest_field)
+        call take_reading_list(reading_count, readings)
+        call take_byte_list(ground_count, ground)
+        call lend_numbers(number_count, number_before, numbers)
+        call lend_bytes(mark_count, byte_before, marks)
+        readings_before = bits_of(readings)
+        ground_before = ground
+        numbers_before = numbers
+        marks_before = marks
+        field = transfer(junk, field, 3)
+        refusal = razovinto_level_to_field(readings(1), reading_count, ground(1), ground_count, numbers(1), &
+            number_count, marks(1), mark_count, field(2), 0_c_size_t)
+        call expect(refusal == razovinto_list_too_short .and. field(2)%place == junk(2))
+        call expect(all(numbers == numbers_before) .and. all(marks == marks_before))
+        refusal = razovinto_level_to_field(readings(1), reading_count, ground(1), ground_count, numbers(1), &
+            number_count, marks(1), mark_count, field(2), razovinto_level_to_field_length)
+        count = merge(reading_count, 0_c_size_t, refusal == 0)
+        if (count > min(number_count, mark_count)) call halt('a level that there is no room for', .false.)
+        call expect(all(bits_of(readings) == readings_before) .and. all(ground == ground_before))
+        call expect_neighbours(transfer(field, junk))
+        call expect(all(numbers(:0) == numbers_before(:0)) .and. all(marks(:0) == marks_before(:0)))
+        call expect(all(numbers(count + 1:) == numbers_before(count + 1:)))
+        call expect(all(marks(count + 1:) == marks_before(count + 1:)))
+        call put_refusal(refusal)
+        call put(field(2)%place)
+        do at = 1, int(number_count)
+            call put(numbers(at))
+        end do
+        do at = 1, int(mark_count)
+            call put_byte(marks(at))
         end do
     end subroutine
 

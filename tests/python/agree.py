@@ -4,11 +4,13 @@
     tests/python/agree.py [--seed N]
 
 The cases are those of tests/second/fresh.py that the module has a function for: runs, scans, reads, searches, writes,
-single operations on fitting numbers of 64 bits, signed ones of 64 bits, and power-fits. Each list is given in some
-form: a list, bytes, an array, memory that is only to be read, memory within a larger array, and with numpy an array of
-the right type, of another type, or with gaps. Ends with 1 at the first case that differs.
+single operations on fitting numbers of 64 bits, signed ones of 64 bits, power-fits, and levels. Each list is given in
+some form: a list, bytes, an array, memory that is only to be read, memory within a larger array, and with numpy an
+array of the right type, of another type, of several dimensions, or with gaps. Ends with 1 at the first case that
+differs.
 """
 import argparse
+import struct
 import sys
 import time
 from array import array
@@ -29,7 +31,7 @@ except ImportError:
     numpy = None
 
 # How many random cases of each row.
-RANDOM = (3000, 1500, 1500, 500, 3000, 2000, 1000, 0, 600)
+RANDOM = (3000, 1500, 1500, 500, 3000, 2000, 1000, 0, 600, 1500, 1500)
 GUARD = 3
 
 
@@ -71,7 +73,42 @@ def number_forms():
         yield from (of_type("u8"), lambda given: with_gaps("u8", given), lambda given: numpy.array(given, object))
 
 
-BYTE_FORMS, NUMBER_FORMS = tuple(byte_forms()), tuple(number_forms())
+def floats(bits):
+    """The floats that have these bits, NaN with every payload too."""
+    return array("f", array("I", bits).tobytes())
+
+
+def in_rows(given):
+    """The same floats in an array of two dimensions, where they can stand so."""
+    return given.reshape(2, -1) if given.size % 2 == 0 else given.reshape(1, -1)
+
+
+def of_floats(letter):
+    def form(bits):
+        with numpy.errstate(invalid="ignore"):  # a signalling NaN becomes a quiet one
+            return numpy.array(floats(bits), "f4").astype(letter)
+
+    return form
+
+
+def float_forms():
+    """What takes the bits of readings."""
+    yield floats
+    yield lambda bits: floats(bits).tolist()
+    yield lambda bits: tuple(floats(bits))
+    yield lambda bits: array("d", floats(bits))
+    yield lambda bits: memoryview(floats(bits)).toreadonly()
+    yield lambda bits: within("I", bits).cast("B").cast("f")
+    yield lambda bits: memoryview(b"\7" + floats(bits).tobytes())[1:].cast("f")
+    if numpy:
+        yield from (of_floats("f4"), of_floats(">f4"), of_floats("f8"), of_floats(object), of_floats("g"))
+        yield lambda bits: numpy.frombuffer(floats(bits).tobytes() or b"", "f4")
+        yield lambda bits: with_gaps("u4", bits).view("f4") if bits else []
+        yield lambda bits: in_rows(of_floats("f4")(bits))
+        yield lambda bits: numpy.asfortranarray(in_rows(of_floats("f4")(bits)))
+
+
+BYTE_FORMS, NUMBER_FORMS, FLOAT_FORMS = tuple(byte_forms()), tuple(number_forms()), tuple(float_forms())
 
 
 # A case's lines: the model's, and what the module gives
@@ -151,22 +188,30 @@ def scan_lines(dice, case):
         yield wanted, scan_line(field)
 
 
+class Rooms:
+    """Two lists that a case's values go to, with guards on both sides, which must stay."""
+
+    def __init__(self, dice, case, mark):
+        numbers = array("Q", [5] * GUARD + [rows.NUMBER_BEFORE] * case.room_numbers + [5] * GUARD)
+        marks = bytearray([5] * GUARD + [mark] * case.room_marks + [5] * GUARD)
+        if numpy and dice.chance(50):
+            numbers, marks = numpy.array(numbers, "u8"), numpy.array(marks, "u1")
+        self.whole = numbers, marks
+        self.lent = memoryview(numbers)[GUARD:-GUARD], memoryview(marks)[GUARD:-GUARD]
+
+    def line(self, head):
+        for each in self.whole:
+            assert list(each[:GUARD]) == list(each[-GUARD:]) == [5] * GUARD, "a guard was written"
+        return rows.line([*head, *self.lent[0], *self.lent[1]])
+
+
 def read_line(dice, case):
-    """The line of a read into lists that have guards on both sides, which must stay."""
-    numbers = array("Q", [5] * GUARD + [rows.NUMBER_BEFORE] * case.room_numbers + [5] * GUARD)
-    marks = bytearray([5] * GUARD + [rows.MARK_BEFORE] * case.room_marks + [5] * GUARD)
-    if numpy and dice.chance(50):
-        numbers, marks = numpy.array(numbers, "u8"), numpy.array(marks, "u1")
-    room = slice(GUARD, GUARD + case.room_numbers), slice(GUARD, GUARD + case.room_marks)
-    lent = memoryview(numbers)[room[0]], memoryview(marks)[room[1]]
+    rooms = Rooms(dice, case, rows.MARK_BEFORE)
     try:
-        block = razovinto.read(dice.pick(BYTE_FORMS)(case.block), *lent)
-        head = [0, 0, block.number, block.count]
+        block = razovinto.read(dice.pick(BYTE_FORMS)(case.block), *rooms.lent)
+        return rooms.line([0, 0, block.number, block.count])
     except Refused as refused:
-        head = [refused.number, refused.place, 0, 0]
-    for each in (numbers, marks):
-        assert list(each[:GUARD]) == list(each[-GUARD:]) == [5] * GUARD, "a guard was written"
-    return rows.line([*head, *numbers[room[0]], *marks[room[1]]])
+        return rooms.line([refused.number, refused.place, 0, 0])
 
 
 def values_line(code, place, number, values):
@@ -297,6 +342,55 @@ def fit_lines(_, case):
     yield case.line(), str(int(fits)) if isinstance(fits, bool) else repr(fits)
 
 
+def bits_of(number):
+    return struct.unpack("=I", struct.pack("=f", number))[0]
+
+
+def level_scan_line(*level):
+    try:
+        return rows.line([0, 0, *map(bits_of, razovinto.level_scan(*level))])
+    except Refused as refused:
+        return rows.line([refused.number, refused.place, 0, 0])
+
+
+def level_scan_lines(dice, case):
+    yield case.line(), level_scan_line(dice.pick(FLOAT_FORMS)(case.level), dice.pick(BYTE_FORMS)(case.ground))
+    # Without marks all is air.
+    wanted = model.scan_level(case.level, bytes(len(case.level)))
+    yield rows.line(wanted), level_scan_line(dice.pick(FLOAT_FORMS)(case.level))
+
+
+def turn_line(dice, case):
+    rooms = Rooms(dice, case, rows.BYTE_BEFORE)
+    level = dice.pick(FLOAT_FORMS)(case.level), dice.pick(BYTE_FORMS)(case.ground)
+    try:
+        field = razovinto.level_to_field(*level, *rooms.lent)
+    except Refused as refused:
+        return rooms.line([refused.number, refused.place])
+    count = len(case.level)
+    assert len(field.numbers) == len(field.marks) == count, "the field's lists are as long as the level"
+    assert [*field.numbers] == [*rooms.lent[0][:count]] and not any(field.marks), "the lent lists stand in the answer"
+    return rooms.line([0, 0])
+
+
+def own_turn_line(*level):
+    try:
+        field = razovinto.level_to_field(*level)
+        assert len(field.marks) == len(field.numbers) and not any(field.marks), "own lists are of the level's length"
+        return rows.line([0, 0, *field.numbers])
+    except Refused as refused:
+        return rows.line([refused.number, refused.place])
+
+
+def turn_lines(dice, case):
+    yield case.line(), turn_line(dice, case)
+    for ground in (case.ground, None):
+        marks = bytes(len(case.level)) if ground is None else ground
+        code, place, numbers = model.turn(case.level, marks, len(case.level), len(case.level))
+        given = () if ground is None else (dice.pick(BYTE_FORMS)(ground),)
+        yield rows.line([code, place, *numbers]), own_turn_line(dice.pick(FLOAT_FORMS)(case.level), *given)
+
+
 LINES = {
     rows.Run: run_lines,
     rows.Scan: scan_lines,
@@ -306,6 +400,8 @@ LINES = {
     rows.Signed: signed_lines,
     rows.Fit: fit_lines,
     rows.Write: write_lines,
+    rows.LevelScan: level_scan_lines,
+    rows.Turn: turn_lines,
 }
 
 

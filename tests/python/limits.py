@@ -8,6 +8,7 @@ import ctypes
 import doctest
 import mmap
 import importlib.util
+import math
 import os
 import pickle
 import subprocess
@@ -16,6 +17,8 @@ import tempfile
 import threading
 import unittest
 from array import array
+from decimal import Decimal
+from fractions import Fraction
 from pathlib import Path
 
 ROOT = Path(__file__).resolve().parents[2]
@@ -23,7 +26,7 @@ sys.path[:0] = [str(ROOT / "python"), str(ROOT / "tests" / "second")]
 import model
 import razovinto
 import sample
-from razovinto import OVERFLOWED, Block, Field, Found, Range, Refusal, Refused, Run, State
+from razovinto import OVERFLOWED, Block, Extent, Field, Found, Range, Refusal, Refused, Run, State
 
 try:
     import numpy
@@ -606,6 +609,268 @@ class Writing(Case):
         self.wrong(TypeError, "numbers is a masked array", razovinto.write, 2, masked, [0] * 6)
 
 
+NAN, INFINITY = math.nan, math.inf
+# The smallest and the largest number of 32 bits, and the largest with a fraction.
+TINY, HUGE, LAST_FRACTION = 2.0**-149, 2.0**128 - 2.0**104, 8388607.5
+
+
+class Levels(Case):
+    def same(self, extent, *numbers):
+        """The numbers and their signs: two zeros are equal and aren't the same."""
+        self.assertIs(type(extent), Extent)
+        self.assertEqual(list(map(repr, extent)), list(map(repr, numbers)))
+
+    def test_forms(self):
+        for readings in (
+            [2.5, -1.0, 300.0],
+            (2.5, -1, 300),
+            array("f", [2.5, -1.0, 300.0]),
+            array("d", [2.5, -1.0, 300.0]),
+            memoryview(array("f", [9.0, 2.5, -1.0, 300.0]))[1:],
+            memoryview(array("f", [300.0, -1.0, 2.5]))[::-1],
+            memoryview(array("f", [2.5, -1.0, 300.0]).tobytes()).cast("f"),
+            (ctypes.c_float * 3)(2.5, -1.0, 300.0),
+            (number for number in (2.5, -1.0, 300.0)),
+            [Fraction(5, 2), Decimal("-1.0"), 300],
+        ):
+            self.same(razovinto.level_scan(readings), -1.0, 300.0)
+        self.same(razovinto.level_scan(range(3, 9), bytes(6)), 3.0, 8.0)
+        self.same(razovinto.level_scan([True, False]), 0.0, 1.0)
+
+    def test_extents(self):
+        self.same(razovinto.level_scan([7.5], [1]), 7.5, 7.5)
+        self.same(razovinto.level_scan([0.0, -0.0]), 0.0, 0.0)
+        self.same(razovinto.level_scan([-0.0, 0.0, -0.0]), -0.0, -0.0)
+        self.same(razovinto.level_scan([1, -0.0, 0.0]), -0.0, 1.0)
+        self.same(razovinto.level_scan([-TINY, TINY, HUGE, -HUGE], [0, 1, 1, 0]), -HUGE, HUGE)
+        self.same(razovinto.level_scan(readings=[-TINY, 0, TINY], ground=b"\1\1\1"), -TINY, TINY)
+
+    def test_refusals(self):
+        self.refused(6, 0, razovinto.level_scan, [NAN, 1], [2])
+        self.refused(6, 0, razovinto.level_scan, [], [0])
+        self.refused(14, 0, razovinto.level_scan, [], [])
+        self.refused(14, 0, razovinto.level_scan, array("f"))
+        self.refused(15, 1, razovinto.level_scan, [1, NAN, NAN], [0, 2, 1])
+        self.refused(22, 1, razovinto.level_scan, [1, INFINITY, 2], [0, 1, 2])
+        self.refused(22, 0, razovinto.level_scan, [-INFINITY])
+        self.refused(22, 2, razovinto.level_scan, [1.5, -0.0, NAN])
+
+    def test_every_nan(self):
+        """Quiet and signalling ones of both signs, with each digit of the payload, as they lie in memory."""
+        for sign in (0, 2**31):
+            for bits in (0x7F800000, 0x7FC12345, 0x7FFFFFFF, 0x7FBFFFFF, *(0x7F800000 + 2**i for i in range(23))):
+                level = array("I", [0x3F800000, sign + bits, 0]).tobytes()
+                readings = memoryview(level).cast("f")
+                self.refused(22, 1, razovinto.level_scan, readings, b"\0\1\0")
+                self.refused(22, 1, razovinto.level_to_field, readings)
+                self.refused(22, 1, razovinto.level_scan, readings.tolist())
+
+    def test_lengths(self):
+        for n in (1, 4095, 4096, 4097, 65536):
+            readings = array("f", [1.0]) * n
+            self.same(razovinto.level_scan(readings), 1.0, 1.0)
+            self.assertEqual(razovinto.level_to_field(readings), Field(array("Q", [1]) * n, bytes(n)))
+            readings[n - 1] = 0.5
+            self.same(razovinto.level_scan(readings), 0.5, 1.0 if n > 1 else 0.5)
+            self.refused(23, n - 1, razovinto.level_to_field, readings)
+            readings[n - 1] = NAN
+            self.refused(22, n - 1, razovinto.level_scan, readings)
+            self.refused(22, n - 1, razovinto.level_to_field, readings)
+
+    def test_plateau(self):
+        """The accident of version two: one NaN in a plateau of 65,536 readings is named by its place."""
+        readings, ground = array("f", [258.125]) * 65536, b"\1" * 65536
+        self.same(razovinto.level_scan(readings, ground), 258.125, 258.125)
+        for place in (0, 4095, 4096, 40000, 65535):
+            readings[place] = NAN
+            self.refused(22, place, razovinto.level_scan, readings, ground)
+            readings[place] = 258.125
+
+    def test_fields(self):
+        field = razovinto.level_to_field([-0.0, 0.0, 1, 8388607, 8388608, 16777215], [0, 1, 0, 1, 0, 1])
+        self.assertEqual(field, Field(array("Q", [0, 0, 1, 8388607, 8388608, 16777215]), bytes(6)))
+        self.assertEqual(razovinto.scan(field), Range(0, 16777215, 24))
+        self.assertEqual(razovinto.search(razovinto.write(0, field)), None)
+        for reading in (16777216, 0.5, LAST_FRACTION, -1, -0.5, TINY, -TINY, HUGE, 2.0**32, 2.0**64, -16777215):
+            self.refused(23, 1, razovinto.level_to_field, [1, reading, NAN])
+            self.refused(15, 1, razovinto.level_to_field, [1, reading, NAN], [0, 2, 0])
+            self.refused(22, 0, razovinto.level_to_field, [INFINITY, reading])
+        self.refused(6, 0, razovinto.level_to_field, [NAN, 1], [2])
+        self.refused(14, 0, razovinto.level_to_field, [])
+
+    def test_lent_lists(self):
+        numbers, marks = array("Q", [11] * 3), bytearray([12] * 3)
+        field = razovinto.level_to_field([5, -0.0, 7], None, numbers, marks)
+        self.assertEqual((list(numbers), list(marks)), ([5, 0, 7], [0, 0, 0]))
+        self.assertIs(field.numbers, numbers)
+        self.assertIs(field.marks, marks)
+        for numbers, marks in (
+            (array("Q", [11] * 5), bytearray([12] * 4)),
+            (memoryview(array("Q", [11] * 5)), memoryview(bytearray([12] * 4))),
+            ((ctypes.c_uint64 * 5)(*[11] * 5), (ctypes.c_uint8 * 4)(*[12] * 4)),
+        ):
+            field = razovinto.level_to_field([5, -0.0, 7], [0, 1, 0], numbers, marks)
+            self.assertEqual((list(numbers), list(marks)), ([5, 0, 7, 11, 11], [0, 0, 0, 12]))
+            # A field's lists are as long as the level, whatever the lent ones are.
+            self.assertEqual((list(field.numbers), list(field.marks)), ([5, 0, 7], [0, 0, 0]))
+            self.assertEqual(field.values(), [5, 0, 7])
+        numbers = array("Q", [11] * 9)
+        field = razovinto.level_to_field([5, 6], numbers=numbers)
+        self.assertEqual(razovinto.scan(field), Range(5, 6, 1))
+        numbers[0] = 4  # the field's numbers stand in the lent list
+        self.assertEqual(field.values(), [4, 6])
+        self.assertEqual(razovinto.level_to_field([5, 6], marks=bytearray(3)).numbers, array("Q", [5, 6]))
+
+    def test_short_lists(self):
+        for room_numbers, room_marks in ((2, 3), (3, 2), (0, 55), (55, 0)):
+            numbers, marks = array("Q", [11] * room_numbers), bytearray([12] * room_marks)
+            for readings in ([1, 2, 3], [NAN, 0.5, -1]):
+                self.refused(19, 0, razovinto.level_to_field, readings, None, numbers, marks)
+            self.refused(6, 0, razovinto.level_to_field, [1, 2, 3], [0], numbers, marks)
+            self.assertEqual((list(numbers), list(marks)), ([11] * room_numbers, [12] * room_marks))
+
+    def test_refused_lists_stay(self):
+        numbers, marks = array("Q", [11] * 4), bytearray([12] * 4)
+        for number, place, readings, ground in (
+            (6, 0, [1, 2], [0]),
+            (14, 0, [], []),
+            (15, 2, [1, 2, NAN], [0, 1, 2]),
+            (22, 3, [1, 2, 3, INFINITY], [0] * 4),
+            (23, 1, [1, 2.5, NAN], [0] * 3),
+        ):
+            self.refused(number, place, razovinto.level_to_field, readings, ground, numbers, marks)
+            self.assertEqual((list(numbers), list(marks)), ([11] * 4, [12] * 4))
+
+    def test_numbers_that_no_float_is(self):
+        """Nothing is rounded: what 32 bits don't hold exactly is named by its place."""
+        others = Fraction(1, 3), Decimal("0.1")
+        for number in (0.1, 16777217, 1e300, -1e300, 1e-50, 2**60 + 1, 2**1030, 10**6000, *others):
+            for function in (razovinto.level_scan, razovinto.level_to_field):
+                self.wrong(ValueError, "readings[1] is ", function, [NAN, number], [0, 0])
+        self.wrong(ValueError, "readings[0] is 0.1, which no 32-bit float is", razovinto.level_scan, array("d", [0.1]))
+        self.wrong(ValueError, "a number of 19932 binary digits", razovinto.level_scan, [10**6000])
+        self.wrong(ValueError, "a number of the type Fraction", razovinto.level_scan, [Fraction(10**6000)])
+        self.wrong(ValueError, "readings[0] is Decimal('sNaN')", razovinto.level_scan, [Decimal("sNaN")])
+        self.refused(22, 0, razovinto.level_scan, [Decimal("NaN")])
+        self.refused(22, 0, razovinto.level_scan, [Decimal("-Infinity")])
+        self.same(razovinto.level_scan([Decimal("-0"), Fraction(1, 8), 2**60]), -0.0, 2.0**60)
+
+    def test_wrong_lists(self):
+        for given in ("1", b"1", None, [1.0], 1j, float, OVERFLOWED):
+            self.wrong(TypeError, "readings[1] is ", razovinto.level_scan, [0.5, given])
+        self.wrong(TypeError, "readings[0] is overflowed", razovinto.level_scan, [OVERFLOWED])
+        self.wrong(TypeError, "readings is of the type float", razovinto.level_scan, 0.5)
+        self.wrong(TypeError, "readings[0] is 'a'", razovinto.level_scan, "abc")
+        self.wrong(TypeError, "ground is of the type int", razovinto.level_scan, [0.5], 0)
+        self.wrong(TypeError, "ground[0] is 0.0", razovinto.level_scan, [0.5], [0.0])
+        self.wrong(OverflowError, "ground[0] is 256", razovinto.level_scan, [0.5], [256])
+        # Bytes would be taken for numbers from 0 to 255, where the floats in them are meant.
+        raw = array("f", [0.5, 2.0]).tobytes()
+        for given in (raw, bytearray(raw), memoryview(raw), memoryview(raw).cast("c")):
+            self.wrong(TypeError, "readings is bytes", razovinto.level_scan, given)
+            self.wrong(TypeError, "cast('f')", razovinto.level_to_field, given)
+        self.same(razovinto.level_scan(memoryview(raw).cast("f")), 0.5, 2.0)
+
+    def test_lists_that_cannot_be_written(self):
+        marks = bytearray(3)
+        for numbers in (
+            [0] * 3,
+            bytes(24),
+            bytearray(24),
+            array("q", [0] * 3),
+            array("d", [0] * 3),
+            memoryview(array("Q", [0] * 3)).toreadonly(),
+            memoryview(array("Q", [0] * 6))[::2],
+            memoryview(bytearray(32)).cast("Q", (2, 2)),
+            3,
+        ):
+            self.wrong(TypeError, "numbers must be a list", razovinto.level_to_field, [1] * 3, None, numbers, marks)
+        for marks in (bytes(3), [0] * 3, memoryview(bytearray(6))[::2], array("b", [0] * 3), array("f", [0] * 3)):
+            self.wrong(TypeError, "marks must be a list that", razovinto.level_to_field, [1] * 3, None, None, marks)
+        askew = memoryview(bytearray(33))[1:25].cast("Q")
+        if ctypes.addressof(ctypes.c_char.from_buffer(askew)) % 8:
+            self.wrong(ValueError, "numbers is not aligned", razovinto.level_to_field, [1] * 3, None, askew)
+
+    def test_shared_memory(self):
+        memory = bytearray(array("f", [1.0] * 4).tobytes()) + bytearray(48)
+        whole, before = memoryview(memory), bytes(memory)
+        readings = whole[:16].cast("f")
+        for words, given in (
+            ("readings and numbers share memory", (readings, None, whole[8:40].cast("Q"))),
+            ("readings and marks share memory", (readings, None, None, whole[15:19])),
+            ("numbers and ground share memory", (readings, whole[40:44], whole[16:48].cast("Q"))),
+            ("ground and marks share memory", (readings, whole[16:20], None, whole[19:23])),
+            ("numbers and marks share memory", (readings, None, whole[16:48].cast("Q"), whole[47:51])),
+            ("share memory", (readings, None, whole.cast("Q"))),
+        ):
+            self.wrong(ValueError, words, razovinto.level_to_field, *given)
+            self.assertEqual(memory, before)
+        # Lists that are only read may be the same memory, and lists may lie one after the other.
+        ones = memoryview(bytearray(16))
+        self.same(razovinto.level_scan(ones.cast("f"), ones[:4]), 0.0, 0.0)
+        field = razovinto.level_to_field(readings, whole[16:20], whole[24:56].cast("Q"), whole[20:24])
+        self.assertEqual(field.values(), [1] * 4)
+        self.assertEqual(memory[:20] + memory[56:], before[:20] + before[56:])
+
+    @with_numpy
+    def test_numpy(self):
+        level = numpy.arange(6, dtype="f4").reshape(2, 3) + numpy.float32(0.5)
+        ground = numpy.zeros((2, 3), bool)
+        for letter in ("f4", ">f4", "f8", "f2", "g", object):
+            self.same(razovinto.level_scan(level.astype(letter)), 0.5, 5.5)
+            self.same(razovinto.level_scan(level.astype(letter), ground), 0.5, 5.5)
+        self.same(razovinto.level_scan(level.T), 0.5, 5.5)
+        self.same(razovinto.level_scan(level[:, ::2], [0, 0, 1, 1]), 0.5, 5.5)
+        self.same(razovinto.level_scan(list(level.ravel())), 0.5, 5.5)
+        self.same(razovinto.level_scan(level.astype("i2")), 0.0, 5.0)
+        self.same(razovinto.level_scan(ground), 0.0, 0.0)
+        level[1, 1] = numpy.nan
+        # The place is that of the items in order, whichever way they lie in memory.
+        for given in (level, numpy.asfortranarray(level), level.astype(">f4"), level.astype("f8"), list(level.flat)):
+            self.refused(22, 4, razovinto.level_scan, given)
+        self.refused(22, 3, razovinto.level_scan, level.T)
+        self.refused(23, 0, razovinto.level_to_field, level)
+        for number in (numpy.float64(0.1), numpy.int64(2**60 + 1), numpy.uint64(MOST), numpy.longdouble(1) / 3):
+            self.wrong(ValueError, "readings[1] is ", razovinto.level_scan, [numpy.float32(0.1), number])
+            self.wrong(ValueError, "readings[0] is ", razovinto.level_scan, numpy.array([number]))
+        self.wrong(TypeError, "readings[0] is (1+0j)", razovinto.level_scan, [numpy.complex64(1)])
+        self.wrong(TypeError, "readings[0] is masked", razovinto.level_scan, [numpy.ma.masked])
+        for letter in ("c8", "c16", "M8[ns]", "m8[ns]", "S2", "U2"):
+            given = numpy.zeros(3).astype(letter)
+            self.wrong(TypeError, "readings is an array of", razovinto.level_scan, given)
+        self.wrong(TypeError, "readings is of the type ndarray", razovinto.level_scan, numpy.array(0.5, "f4"))
+        self.wrong(TypeError, "ground is an array of float32", razovinto.level_scan, level, level)
+
+    @with_numpy
+    def test_masked(self):
+        masked = numpy.ma.MaskedArray(numpy.ones(3, "f4"), mask=[0, 1, 0])
+        for function in (razovinto.level_scan, razovinto.level_to_field):
+            self.wrong(TypeError, "readings is a masked array", function, masked)
+            self.wrong(TypeError, "ground is a masked array", function, [1.0], numpy.ma.zeros(1, "u1"))
+        wrong = numpy.ma.zeros(3, "u8"), numpy.ma.zeros(3, "u1")
+        self.wrong(TypeError, "numbers must be a list that", razovinto.level_to_field, [1] * 3, None, wrong[0])
+        self.wrong(TypeError, "marks must be a list that", razovinto.level_to_field, [1] * 3, None, None, wrong[1])
+
+    @with_numpy
+    def test_lent_numpy(self):
+        numbers, marks = numpy.full(9, 11, "u8"), numpy.full(9, 12, "u1")
+        level = numpy.array([[5, -0.0], [7, 16777215]], "f4")
+        field = razovinto.level_to_field(level, None, numbers[3:8], marks[3:])
+        self.assertEqual(numbers.tolist(), [11, 11, 11, 5, 0, 7, 16777215, 11, 11])
+        self.assertEqual(marks.tolist(), [12, 12, 12, 0, 0, 0, 0, 12, 12])
+        self.assertEqual(field.values(), [5, 0, 7, 16777215])
+        self.assertTrue(numpy.shares_memory(field.numbers, numbers) and numpy.shares_memory(field.marks, marks))
+        mask = numpy.ones(5, bool)
+        razovinto.level_to_field(level, marks=mask)
+        self.assertEqual(mask.tolist(), [False] * 4 + [True])
+        numbers.flags.writeable = False
+        for wrong in (numbers, numpy.zeros(4, "i8"), numpy.zeros(8, "u8")[::2], numpy.zeros((2, 2), "u8")):
+            self.wrong(TypeError, "numbers must be a list that", razovinto.level_to_field, level, None, wrong)
+        memory = numpy.zeros(8, "f4")
+        self.wrong(ValueError, "share memory", razovinto.level_to_field, memory[:4], None, memory.view("u8"))
+        self.assertFalse(memory.any())
+
+
 class Lending(Case):
     def address(self, given, items=None):
         with razovinto._lend("given", given, items or razovinto._NUMBERS) as lent:
@@ -649,6 +914,44 @@ class Lending(Case):
         self.assertEqual(self.address(marks, razovinto._BYTES), (marks.ctypes.data, 6))
         self.assertNotEqual(self.address(numbers.T)[0], numbers.ctypes.data)
 
+    def test_no_copy_of_floats(self):
+        readings = array("f", [1.5, 2.5, 3.5])
+        there = readings.buffer_info()[0]
+        raw = bytes(readings)
+        self.assertEqual(self.address(readings, razovinto._FLOATS), (there, 3))
+        self.assertEqual(self.address(memoryview(readings)[1:], razovinto._FLOATS), (there + 4, 2))
+        self.assertEqual(self.address(memoryview(readings).toreadonly(), razovinto._FLOATS), (there, 3))
+        there = ctypes.cast(ctypes.c_char_p(raw), ctypes.c_void_p).value
+        self.assertEqual(self.address(memoryview(raw).cast("f"), razovinto._FLOATS), (there, 3))
+        self.assertNotEqual(self.address(array("d", readings), razovinto._FLOATS)[0], there)
+        memory = bytearray(4 + 8)
+        there = ctypes.addressof(ctypes.c_char.from_buffer(memory))
+        for offset in range(4):
+            askew = memoryview(memory)[offset : offset + 8].cast("f")
+            askew[0], askew[1] = 2.5, -1.0
+            address, count = self.address(askew, razovinto._FLOATS)
+            self.assertEqual((address % 4, count), (0, 2))
+            self.assertEqual(address == there + offset, (there + offset) % 4 == 0)
+            self.assertEqual(razovinto.level_scan(askew), Extent(-1.0, 2.5))
+
+    @with_numpy
+    def test_no_copy_of_numpy_floats(self):
+        readings = numpy.arange(6, dtype="f4").reshape(2, 3)
+        self.assertEqual(self.address(readings, razovinto._FLOATS), (readings.ctypes.data, 6))
+        readings.flags.writeable = False
+        self.assertEqual(self.address(readings[1:], razovinto._FLOATS), (readings.ctypes.data + 12, 3))
+        for other in (readings.T, readings[:, ::2], readings.astype(">f4"), readings.astype("f8")):
+            self.assertNotEqual(self.address(other, razovinto._FLOATS)[0], other.ctypes.data)
+
+    def test_floats_of_a_file(self):
+        with tempfile.TemporaryFile() as file:
+            file.write(array("f", [271.5, -1.0, 300.0]).tobytes())
+            file.flush()
+            with mmap.mmap(file.fileno(), 0, access=mmap.ACCESS_READ) as raw:
+                self.assertRaises(TypeError, razovinto.level_scan, raw)
+                with memoryview(raw) as view, view.cast("f") as readings:
+                    self.assertEqual(razovinto.level_scan(readings), Extent(-1.0, 300.0))
+
     def test_memory_of_a_file(self):
         with open(ROOT / "examples" / "mountain.blocks", "rb") as file:
             with mmap.mmap(file.fileno(), 0, access=mmap.ACCESS_READ) as run:
@@ -660,6 +963,7 @@ class Lending(Case):
     def test_given_back(self):
         """After a call, refused or not, the memory is its owner's alone again, and nothing is kept."""
         memory, marks = bytearray(block_of(1, 2)), bytearray(55)
+        level, numbers = array("f", [1.0] * 3), array("Q", [0] * 5)
         text = bytes(bytearray(512))
         before = sys.getrefcount(text), sys.getrefcount(memory)
         for _ in range(50):
@@ -678,9 +982,20 @@ class Lending(Case):
             self.assertRaises(TypeError, razovinto.write, 0, memory, 5)
             self.assertRaises(TypeError, razovinto.write, 0, [1], [0], text)
             self.assertRaises(ValueError, razovinto.write, 0, [1], memory, memory)
+            razovinto.level_scan(level, marks[:3])
+            razovinto.level_to_field(level, None, None, marks)
+            razovinto.level_to_field(level, memory[6:9], numbers)
+            self.assertRaises(Refused, razovinto.level_scan, level, marks)
+            self.assertRaises(Refused, razovinto.level_to_field, level, marks, numbers)
+            self.assertRaises(TypeError, razovinto.level_scan, level, 5)
+            self.assertRaises(TypeError, razovinto.level_to_field, level, None, numbers, 5)
+            self.assertRaises(TypeError, razovinto.level_to_field, level, None, level)
+            self.assertRaises(ValueError, razovinto.level_to_field, level, marks, None, marks)
         self.assertEqual((sys.getrefcount(text), sys.getrefcount(memory)), before)
         memory.append(0)  # would be a BufferError if it were still lent
         marks.append(0)
+        level.append(0)
+        numbers.append(0)
 
     def test_threads(self):
         run = (ROOT / "examples" / "mountain.blocks").read_bytes()

@@ -5,7 +5,7 @@ from math import isqrt
 
 import model
 from model import LITERAL, LOGARITHM, OVERFLOWED, POWER, PRODUCT, QUOTIENT, SUM, WIDTHS, limit
-from rows import FIELD, LIST, RUN, Fit, Operation, Plain, Read, Run, Scan, Search, Signed, Write
+from rows import FIELD, LIST, RUN, Fit, LevelScan, Operation, Plain, Read, Run, Scan, Search, Signed, Turn, Write
 
 MOST = limit(64)
 ODD_WIDTHS = (0, 7, 8, 9, 16, 32, 63, 64, 255)
@@ -717,6 +717,326 @@ def some_write(dice):
     return case._replace(marks=dice.some_bytes(n)) if way == 1 else case
 
 
+# Levels: readings as the bits of floats
+
+ZERO, MINUS_ZERO, ONE, MINUS_ONE, HALF, ONE_AND_A_HALF = 0, 2**31, 0x3F800000, 0xBF800000, 0x3F000000, 0x3FC00000
+# The smallest and the largest number below the normal ones, the smallest normal and the largest number.
+TINY, SUBNORMAL, NORMAL, HUGE = 0x00000001, 0x007FFFFF, 0x00800000, 0x7F7FFFFF
+SIGN = model.SIGN
+INFINITIES = (0x7F800000, 0xFF800000)
+# Quiet and signalling ones of both signs; the payload's first digit says which.
+NANS = (0x7FC00000, 0xFFC00000, 0x7F800001, 0xFF800001, 0x7FBFFFFF, 0xFFBFFFFF, 0x7FFFFFFF, 0xFFFFFFFF, 0x7FC12345)
+SIZES = (ZERO, TINY, TINY + 1, SUBNORMAL, NORMAL, HALF, ONE, ONE + 1, HUGE - 1, HUGE)
+LAST_WHOLE = model.bits_of_whole(2**24 - 1)
+PAST_WHOLE = LAST_WHOLE + 1
+# Whole numbers that a field takes, and numbers beside them that it doesn't: a fraction, a sign, or one too large.
+WHOLE_NUMBERS = (1, 2, 3, 255, 2**23 - 1, 2**23, 2**23 + 1, 2**24 - 2, 2**24 - 1)
+WHOLE = (ZERO, MINUS_ZERO, *map(model.bits_of_whole, WHOLE_NUMBERS))
+NOT_WHOLE = (
+    HALF,
+    ONE - 1,
+    ONE + 1,
+    ONE_AND_A_HALF,
+    MINUS_ONE,
+    TINY,
+    MINUS_ZERO + TINY,
+    SUBNORMAL,
+    NORMAL,
+    model.bits_of_whole(2**23) - 1,  # 8,388,607.5
+    model.bits_of_whole(2**23) - 2**22 - 1,  # 6,291,455.5
+    model.bits_of_whole(2**22) + 1,  # 4,194,304.5
+    PAST_WHOLE,
+    PAST_WHOLE + 1,
+    LAST_WHOLE + SIGN,
+    PAST_WHOLE + SIGN,
+    model.bits_of_whole(2**23) + SIGN,
+    0x4F800000,  # 2 ** 32
+    0x5F800000,  # 2 ** 64
+    HUGE,
+    HUGE + SIGN,
+)
+# What can be wrong at a place of a level: its reading, its ground mark, or both.
+BOTH_FAULTS = ((NANS[0], 2), (INFINITIES[1], 128))
+LEVEL_FAULTS = (
+    *((bits, mark) for bits in (*NANS[:4], *INFINITIES) for mark in (0, 1)),
+    (ONE, 2),
+    (MINUS_ZERO, 255),
+    *BOTH_FAULTS,
+)
+TURN_FAULTS = (
+    (NANS[0], 0),
+    (INFINITIES[0], 1),
+    (HALF, 0),
+    (PAST_WHOLE, 1),
+    (MINUS_ONE, 0),
+    (ONE, 2),
+    (HALF, 3),
+    *BOTH_FAULTS,
+)
+# The scan works through a level in parts of so many readings.
+PART = 4096
+PART_LENGTHS = (1, 2, PART - 1, PART, PART + 1, FIELD)
+
+
+def part_places(n):
+    """The telling places of a level of so many readings: its ends, and where a part ends and the next begins."""
+    return sorted({place for place in (0, 1, PART - 2, PART - 1, PART, PART + 1, n - 2, n - 1) if 0 <= place < n})
+
+
+def level_with(level, faults=(), ground=None):
+    """A scan of a level, in air where no ground is given, with other readings and marks at some places."""
+    level, ground = list(level), bytearray(len(level) if ground is None else ground)
+    for place, (bits, mark) in faults:
+        level[place], ground[place] = bits, mark
+    return LevelScan(tuple(level), bytes(ground))
+
+
+def turning(scan, more_numbers=0, more_marks=0):
+    """The same level into lists that have so many elements more than it, or fewer."""
+    n = len(scan.level)
+    return Turn(*scan, max(0, n + more_numbers), max(0, n + more_marks))
+
+
+def single_readings():
+    """Each telling reading alone, in air and under the ground, and in a field with room to spare."""
+    for bits in sorted({*SIZES, *(SIGN + size for size in SIZES), *WHOLE, *NOT_WHOLE, *INFINITIES, *NANS}):
+        for mark in (0, 1, 2):
+            scan = level_with([bits], [(0, (bits, mark))])
+            yield scan
+            yield turning(scan, 1, 2 - mark)
+
+
+def reading_pairs():
+    """Each pair of telling numbers in both orders: the two zeros, subnormal and normal ones, both signs."""
+    numbers = (*SIZES, *(SIGN + size for size in SIZES))
+    for i, first in enumerate(numbers):
+        for second in numbers[: i + 1]:
+            yield level_with((first, second), ground=b"\0\1")
+            yield level_with((second, first), ground=b"\1\0")
+
+
+def zeros_in_a_row():
+    """The two zeros in each order of three, alone, as the least and as the greatest; and equal readings."""
+    for signs in range(8):
+        zeros = [SIGN * (signs >> i & 1) for i in range(3)]
+        yield level_with(zeros)
+        for other in (ONE, MINUS_ONE, TINY, MINUS_ZERO + TINY):
+            yield level_with([other, *zeros, other])
+            yield level_with([*zeros[:2], other, zeros[2]])
+        yield turning(level_with([ONE, *zeros]))
+        yield turning(level_with(zeros), 2, 1)
+    for bits in (ONE, MINUS_ONE, HUGE, HUGE + SIGN, SUBNORMAL):
+        yield level_with([bits] * 3, ground=b"\0\1\0")
+
+
+def level_place_faults():
+    """Each fault at each place of a short level, and each pair of them: which one wins."""
+    faults = [(place, fault) for place in (0, 2, 4) for fault in LEVEL_FAULTS]
+    for first in faults:
+        yield level_with((ONE, TINY, HUGE, ZERO, MINUS_ONE), [first], ground=b"\0\1\0\1\0")
+    for first in faults:
+        for second in faults[::3]:
+            yield level_with((ONE, TINY, HUGE, ZERO, MINUS_ONE), [first, second])
+
+
+def turn_place_faults():
+    """The same for a field, with lists that are longer; and with too little room, which comes before all of them."""
+    sound = (ONE, LAST_WHOLE, MINUS_ZERO, ZERO, ONE)
+    faults = [(place, fault) for place in (0, 2, 4) for fault in TURN_FAULTS]
+    for first in faults:
+        yield turning(level_with(sound, [first], ground=b"\0\1\0\1\0"), 1, 2)
+        yield turning(level_with(sound, [first]), -1, 0)
+        yield turning(level_with(sound, [first]), 0, -5)
+        for second in faults:
+            yield turning(level_with(sound, [first, second]))
+
+
+def level_lists():
+    """Lists that differ in length or are empty, alone and with every fault that comes after."""
+    for n, k in ((0, 1), (1, 0), (1, 2), (55, 54), (55, 56), (0, 0)):
+        for bits in (ONE, HALF, NANS[0]):
+            for mark in (0, 2):
+                scan = LevelScan((bits,) * n, bytes([mark]) * k)
+                yield scan
+                for rooms in ((0, 0), (0, 3), (2, 0), (-1, 0), (0, -1)):
+                    yield turning(scan, *rooms)
+
+
+def turn_rooms():
+    """Each of the two lists shorter than the level, just as long, and longer; what is past the level's length stays."""
+    for n in (1, 2, 5, 55):
+        level = [WHOLE[i % len(WHOLE)] for i in range(n)]
+        for more_numbers in (-n, -1, 0, 1, 3):
+            for more_marks in (-n, -1, 0, 1, 3):
+                yield turning(level_with(level, ground=bytes(i % 2 for i in range(n))), more_numbers, more_marks)
+
+
+def part_extents():
+    """Levels of each telling length, with the least, the greatest, both, or the first zero of a kind at part ends."""
+    for n in PART_LENGTHS:
+        level = [ONE + i % 7 for i in range(n)]
+        for place in part_places(n):
+            yield level_with(level, [(place, (MINUS_ONE, 0))])
+            yield level_with(level, [(place, (HUGE, 1))])
+            # The first zero, with the other one behind it; nothing else is as small, or as large.
+            for zero, other in ((ZERO, MINUS_ZERO), (MINUS_ZERO, ZERO)):
+                behind = [(later, (other, 0)) for later in part_places(n) if later > place]
+                yield level_with(level, [(place, (zero, 0)), *behind])
+                yield level_with([bits + SIGN for bits in level], [(place, (zero, 1)), *behind])
+            # Of equals the first, beyond a part's end too.
+            yield level_with([TINY] * n, [(place, (ZERO, 0))])
+
+
+def part_faults():
+    """The first fault at part ends, with another behind it and numbers around it that would be least and greatest."""
+    for n in PART_LENGTHS:
+        level = [ONE + i % 7 for i in range(n)]
+        for place in part_places(n):
+            for bits, mark in ((NANS[2], 0), (INFINITIES[1], 1), (ONE, 2), (NANS[1], 255)):
+                behind = [(n - 1, (ONE, 3))] if place < n - 1 else []
+                yield level_with(level, [(0, (HUGE, 0)), *behind, (place, (bits, mark))])
+    for bits, mark in ((NANS[0], 0), (ONE, 2)):
+        faults = [(PART, (bits, mark)), (PART + 1, (ONE, 2)), (PART + 2, (NANS[0], 0))]
+        yield level_with([ONE] * FIELD, faults)
+
+
+def turned_at(n, place, reading):
+    """A field of zeros with one other reading and mark."""
+    return turning(level_with([ZERO] * n, [(place, reading)]))
+
+
+def part_turns():
+    """Fields of each telling length, with a whole number or a fault at part ends, and short lists."""
+    for n in PART_LENGTHS:
+        for place in part_places(n):
+            for reading in ((LAST_WHOLE, 1), (HALF, 0), (NANS[2], 1), (ONE, 2), (PAST_WHOLE, 0)):
+                yield turned_at(n, place, reading)
+        yield turning(level_with([NANS[0]] * n), -n, 0)
+        yield turning(level_with([NANS[0]] * n), 0, -n)
+        yield turning(level_with([HALF] * n), -1, -n)
+
+
+def few_part_turns():
+    """Some of these: a field of many places has a long line, and a refused one the longest, since its lists stay."""
+    yield turned_at(PART, PART - 1, (LAST_WHOLE, 0))
+    yield turned_at(FIELD, PART, (LAST_WHOLE, 1))
+    yield turned_at(PART + 1, PART, (HALF, 0))
+
+
+def plateau(n=FIELD, place=None, bits=NANS[0]):
+    """A level whose mountain is a plateau, all of one reading under the ground; at a place of it another reading."""
+    level, ground = [0x43888000 + 64 * (i % 97) for i in range(n)], bytearray(n)
+    for i in range(n // 4, 3 * n // 4):
+        level[i], ground[i] = 0x43811000, 1
+    if place is not None:
+        level[place] = bits
+    return LevelScan(tuple(level), bytes(ground))
+
+
+def plateaus():
+    """The accident of version two: one NaN in the plateau. And the same level without it."""
+    yield plateau()
+    for place in (FIELD // 4, FIELD // 2 - 1, FIELD // 2, FIELD // 2 + 1234, 3 * FIELD // 4 - 1):
+        yield plateau(place=place)
+    yield plateau(place=FIELD // 2 + 1, bits=INFINITIES[0])
+
+
+def longest_levels():
+    """Lists of as many elements as a case may have, and one fewer."""
+    for n, k in ((FIELD, FIELD - 1), (FIELD - 1, FIELD), (FIELD, 0), (0, FIELD)):
+        yield LevelScan((ONE,) * n, bytes(k))
+        yield Turn((ONE,) * n, bytes(k), 1, 2)
+    yield Turn((ONE,) * FIELD, bytes(FIELD), 1, 2)
+
+
+def longest_rooms():
+    yield Turn((ONE,), b"\1", FIELD, FIELD)
+    yield Turn((HALF,), b"\0", FIELD, FIELD)
+
+
+def some_reading(dice, way):
+    """A usable reading: any, one close to 1, a small one, or a whole number."""
+    if way == 0:
+        return dice.below(model.INFINITY) + SIGN * dice.below(2)
+    if way == 1:
+        return ONE + dice.below(40) + SIGN * dice.below(2)
+    if way == 2:
+        return dice.below(3) + SIGN * dice.below(2)
+    return some_whole(dice)
+
+
+def some_whole(dice):
+    if dice.chance(20):
+        return dice.pick(WHOLE)
+    number = dice.below(2 ** dice.between(1, 24))
+    return model.bits_of_whole(number) if number else SIGN * dice.below(2)
+
+
+def some_unusable(dice):
+    """NaN with any payload, or infinite."""
+    digits = dice.pick((0, 1, 2**22, dice.below(2**23)))
+    return model.INFINITY + digits + SIGN * dice.below(2)
+
+
+def some_ground(dice, n):
+    return bytes(dice.below(2) for _ in range(n))
+
+
+def some_level_length(dice):
+    return dice.between(1, dice.pick((1, 4, 12, 60, 60, 300)))
+
+
+def some_level_scan(dice):
+    """Two in five are ranged; the others have up to three faults, or lists that differ or are empty."""
+    n, way = some_level_length(dice), dice.below(4)
+    scan = LevelScan(tuple(some_reading(dice, way) for _ in range(n)), some_ground(dice, n))
+    which = dice.below(20)
+    if which < 8:
+        return scan
+    if which < 10:
+        return scan._replace(ground=scan.ground[1:] if dice.chance(50) else scan.ground + b"\2")
+    if which < 12:
+        return LevelScan((), b"")
+    return level_with(scan.level, [some_fault_of(dice, n, ONE) for _ in range(dice.between(1, 3))], scan.ground)
+
+
+def some_fault_of(dice, n, fine):
+    """A place with an unusable reading, a bad mark, or both."""
+    wrong = dice.below(3)
+    bits = some_unusable(dice) if wrong != 1 else fine
+    return dice.below(n), (bits, dice.below(2) if wrong == 0 else dice.between(2, 255))
+
+
+def some_turn(dice):
+    """Two in five are turned; the others have up to three faults, too little room, or lists that differ or are empty."""
+    n, which = some_level_length(dice), dice.below(20)
+    level, ground = tuple(some_whole(dice) for _ in range(n)), some_ground(dice, n)
+    rooms = dice.pick((0, 0, 1, 5)), dice.pick((0, 0, 1, 5))
+    if which < 8:
+        return turning(LevelScan(level, ground), *rooms)
+    if which < 9:
+        return turning(LevelScan(level, ground[1:] if dice.chance(50) else ground + b"\2"), *rooms)
+    if which < 10:
+        return turning(LevelScan((), b""), *rooms)
+    if which < 12:
+        rooms = dice.pick(((-1, 0), (0, -1), (-n, 3), (3, -n), (-1, -1)))
+    faults = [some_turn_fault(dice, n) for _ in range(dice.between(1, 3))]
+    return turning(level_with(level, faults, ground), *rooms)
+
+
+def some_turn_fault(dice, n):
+    """The same, or a reading that isn't a whole number from 0 to 2 ** 24 - 1."""
+    if dice.chance(60):
+        return some_fault_of(dice, n, HALF if dice.chance(30) else ONE)
+    return dice.below(n), (some_not_whole(dice), dice.below(2))
+
+
+def some_not_whole(dice):
+    """A telling one, a whole number and some fraction of 1, or any number that isn't whole."""
+    bits = some_whole(dice) + 1 if dice.chance(50) else some_reading(dice, 0)
+    return dice.pick(NOT_WHOLE) if dice.chance(40) or model.whole_by_bits(bits) else bits
+
+
 SOME = (
     some_run,
     some_scan,
@@ -727,6 +1047,8 @@ SOME = (
     some_fit,
     some_plain,
     some_write,
+    some_level_scan,
+    some_turn,
 )
 
 
@@ -743,7 +1065,7 @@ def malformed():
 
 
 def unknown_rows():
-    return ((f"a case whose first byte is {byte}", bytes([byte])) for byte in (0, 10, 11, 127, 128, 255))
+    return ((f"a case whose first byte is {byte}", bytes([byte])) for byte in (0, 12, 13, 127, 128, 255))
 
 
 def cut_short():
@@ -758,6 +1080,8 @@ def cut_short():
         Fit(2, 3),
         Plain(8, 5),
         Write(0, (1, 2), bytes(2), 512),
+        LevelScan((ONE, HALF), bytes(2)),
+        Turn((ONE, ZERO), bytes(2), 2, 3),
     )
     for case in some:
         whole = case.encode()
@@ -783,6 +1107,12 @@ def past_the_sizes():
     for more in (FIELD + 1, 65535):
         yield "too many numbers to write", write_bytes(1, more, 0, 512) + bytes(8 * more)
         yield "too many marks to write", write_bytes(1, 0, more, 512) + bytes(more)
+        yield "too many readings to scan", level_bytes(more, 0) + bytes(4 * more)
+        yield "too many ground marks to scan", level_bytes(0, more) + bytes(more)
+        yield "too many readings to turn", turn_bytes(more, 0, 1, 1) + bytes(4 * more)
+        yield "too many ground marks to turn", turn_bytes(0, more, 1, 1) + bytes(more)
+        yield "too much room for a level's numbers", turn_bytes(1, 1, more, 1) + bytes(5)
+        yield "too much room for a level's marks", turn_bytes(1, 1, 1, more) + bytes(5)
 
 
 def not_allowed():
@@ -832,3 +1162,11 @@ def plain_bytes(width, mark, number):
 
 def write_bytes(edition, number_count, mark_count, room):
     return struct.pack("<BBIHHI", 9, edition, 0, number_count, mark_count, room)
+
+
+def level_bytes(reading_count, mark_count):
+    return struct.pack("<BHH", 10, reading_count, mark_count)
+
+
+def turn_bytes(reading_count, mark_count, room_numbers, room_marks):
+    return struct.pack("<BHHHH", 11, reading_count, mark_count, room_numbers, room_marks)

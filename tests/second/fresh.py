@@ -21,7 +21,7 @@ ROOT = Path(__file__).resolve().parents[2]
 # Where the bytes of a case that differs are kept.
 KEPT = ROOT / "target" / "fresh-case"
 # How many random cases of each row.
-RANDOM = (8000, 4000, 4000, 1200, 6000, 3000, 3000, 1000, 2500)
+RANDOM = (8000, 4000, 4000, 1200, 6000, 3000, 3000, 1000, 2500, 6000, 6000)
 
 
 def boundaries(dice):
@@ -38,6 +38,10 @@ def boundaries(dice):
     yield from chain(cases.run_lengths(dice), cases.longest_searches(dice))
     yield from chain(cases.written_tables(), cases.written_rooms(), cases.written_numbers(), cases.written_overflows())
     yield from chain(cases.written_faults(), cases.written_lists(), cases.longest_writings())
+    yield from chain(cases.single_readings(), cases.reading_pairs(), cases.zeros_in_a_row(), cases.level_place_faults())
+    yield from chain(cases.turn_place_faults(), cases.level_lists(), cases.turn_rooms(), cases.part_extents())
+    yield from chain(cases.part_faults(), cases.part_turns(), cases.plateaus(), cases.longest_levels())
+    yield from cases.longest_rooms()
 
 
 def all_allowances(dice):

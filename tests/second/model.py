@@ -1,9 +1,10 @@
-"""The rules once more, in Python's unlimited whole numbers: checked values, recipes, fields and blocks.
+"""The rules once more, in Python's unlimited whole numbers: checked values, recipes, fields, blocks and levels.
 
 This is the second program's own reading of the rules; it shares nothing with the crates. What is cheap to say in two
 ways is said in two ways here, and the two are compared on every case: a recipe's shape by a walk and by the list of all
 its faults, a run by single steps and by what it comes to, a block's layout by looking and by writing the block anew, a
-field's blocks one by one and value by value. Blocks that are written are also read back, searched, and written again.
+field's blocks one by one and value by value, a level by its readings' bits and by the exact numbers that they stand for.
+Blocks that are written are also read back, searched, and written again.
 
 A checked value is a number, or OVERFLOWED. A refusal is its number; 0 is none.
 """
@@ -19,7 +20,7 @@ BLOCK, VALUES, EDITION = 512, 55, 1
 
 DIVISOR_ZERO, BASE_BELOW_TWO, IS_OVERFLOWED, SIGNED_QUOTIENT = 1, 2, 3, 4
 WIDTH, LENGTHS, COUNT, KIND, LITERAL_LARGE, FEW_ON_HAND, HAND_FULL, SEVERAL_LEFT, NONE_LEFT = range(5, 14)
-FIELD_EMPTY, MARK, BLOCK_SIZE, CHECK, LAYOUT, NO_ROOM, ALLOWANCE, BLOCK_NUMBER = range(14, 22)
+FIELD_EMPTY, MARK, BLOCK_SIZE, CHECK, LAYOUT, NO_ROOM, ALLOWANCE, BLOCK_NUMBER, UNUSABLE, NOT_WHOLE = range(14, 24)
 
 
 def limit(width):
@@ -561,3 +562,125 @@ def write(first, numbers, marks, room):
     assert run_of_blocks == written_by_values(first, numbers, marks), "the two writings differ"
     see_written(first, numbers, marks, run_of_blocks)
     return 0, 0, run_of_blocks
+
+
+# Levels: a reading is the 32 bits of a float
+
+SIGN = 2**31
+INFINITY = 0x7F800000
+# 1 as an exact number.
+UNIT = 2**149
+
+
+def is_usable(bits):
+    """Neither NaN nor infinite: the digits of the exponent aren't all 1."""
+    return bits >> 23 & 255 != 255
+
+
+def exact(bits):
+    """The number that a usable reading stands for, times 2 ** 149: so it is a whole number, however small."""
+    exponent, digits = bits >> 23 & 255, bits % 2**23
+    size = (2**23 + digits) << (exponent - 1) if exponent else digits
+    return -size if bits & SIGN else size
+
+
+def order(bits):
+    """Where a usable reading stands by sign and bits, the two zeros in one place."""
+    size = bits % SIGN
+    return -size if bits & SIGN else size
+
+
+def extent_by_bits(level):
+    """The least and the greatest reading; of equals both functions give the first."""
+    return min(level, key=order), max(level, key=order)
+
+
+def extent_by_numbers(level):
+    numbers = [exact(bits) for bits in level]
+    return level[numbers.index(min(numbers))], level[numbers.index(max(numbers))]
+
+
+def bits_of_whole(number):
+    """The bits of a whole number from 1 to 2 ** 24 - 1."""
+    length = number.bit_length()
+    return ((126 + length) << 23) + (number << (24 - length)) - 2**23
+
+
+def whole_by_number(bits):
+    """Whether a usable reading is a whole number from 0 to 2 ** 24 - 1."""
+    return exact(bits) % UNIT == 0 and 0 <= exact(bits) // UNIT < 2**24
+
+
+def whole_by_bits(bits):
+    """The same of any reading: it is a zero, or the bits are those of the number that is left without a fraction."""
+    exponent = bits >> 23
+    if bits % SIGN == 0:
+        return True
+    return 127 <= exponent <= 150 and bits_of_whole((2**23 + bits % 2**23) >> (150 - exponent)) == bits
+
+
+def level_fault_in_order(level, ground, room, whole):
+    """Why a level is refused, and where, by the rules in their order: without room for a field, and for readings that
+    aren't whole only where it is to be turned into one."""
+    if len(level) != len(ground):
+        return LENGTHS, 0
+    if not level:
+        return FIELD_EMPTY, 0
+    if room < len(level):
+        return NO_ROOM, 0
+    for place, (bits, mark) in enumerate(zip(level, ground)):
+        if mark > 1:
+            return MARK, place
+        if not is_usable(bits):
+            return UNUSABLE, place
+        if whole and not whole_by_number(bits):
+            return NOT_WHOLE, place
+    return 0, 0
+
+
+def level_fault_by_faults(level, ground, room, whole):
+    """The same from the list of all faults, as if each stood alone: the least by order, place and order there."""
+    faults = [(0, 0, 0, LENGTHS)] * (len(level) != len(ground))
+    faults += [(1, 0, 0, FIELD_EMPTY)] * (len(level) == 0)
+    faults += [(2, 0, 0, NO_ROOM)] * (room < len(level))
+    faults += [(3, place, 0, MARK) for place, mark in enumerate(ground) if mark not in (0, 1)]
+    faults += [(3, place, 1, UNUSABLE) for place, bits in enumerate(level) if bits % SIGN >= INFINITY]
+    if whole:
+        faults += [(3, place, 2, NOT_WHOLE) for place, bits in enumerate(level) if not whole_by_bits(bits)]
+    _, place, _, fault = min(faults, default=(0, 0, 0, 0))
+    return fault, place
+
+
+def level_fault(level, ground, room, whole):
+    fault = level_fault_in_order(level, ground, room, whole)
+    assert fault == level_fault_by_faults(level, ground, room, whole), "the two refusals of a level differ"
+    return fault
+
+
+def scan_level(level, ground):
+    """Refusal, place, and the bits of the least and the greatest reading. What is under the ground counts as well."""
+    fault, place = level_fault(level, ground, len(level), False)
+    if fault:
+        return fault, place, 0, 0
+    extent = extent_by_bits(level)
+    assert extent == extent_by_numbers(level), "the two extents differ"
+    return 0, 0, *extent
+
+
+def turn(level, ground, room_numbers, room_marks):
+    """Refusal, place, and the numbers of the field, whose marks are all 0."""
+    fault, place = level_fault(level, ground, min(room_numbers, room_marks), True)
+    if fault:
+        return fault, place, []
+    numbers = [exact(bits) // UNIT for bits in level]
+    see_turned(level, ground, numbers)
+    return 0, 0, numbers
+
+
+def see_turned(level, ground, numbers):
+    """What a field owes the level that it was made of."""
+    back = [bits_of_whole(number) if number else 0 for number in numbers]
+    assert all(b in (bits, bits - SIGN) for b, bits in zip(back, level)), "another level is turned back"
+    _, _, least_number, greatest, _ = scan(numbers, bytes(len(numbers)))
+    extent = [exact(bits) // UNIT for bits in scan_level(level, ground)[2:]]
+    assert extent == [least_number, greatest], "the field has another range than the level"

@@ -16,7 +16,8 @@ SEED = 20261115
 # How many random cases of each of the first eight rows there are beside those at the boundaries.
 RANDOM = (700, 300, 250, 60, 300, 150, 150, 40)
 # A row that came later has dice of its own and stands behind, so that the cases before it stay as they are.
-WRITE_SEED, RANDOM_WRITES = 20261116, 36
+WRITE_SEED, RANDOM_WRITES = 20261116, 12
+LEVEL_SEED, RANDOM_LEVEL_SCANS, RANDOM_TURNS = 20261117, 80, 60
 
 
 def tables():
@@ -73,8 +74,8 @@ def every(n, things):
 
 def writes(dice):
     yield from cases.written_tables()
-    yield from cases.written_rooms()
-    yield from every(3, cases.written_numbers())
+    yield from every(2, cases.written_rooms())
+    yield from every(6, cases.written_numbers())
     yield from every(3, cases.written_overflows())
     yield from every(3, cases.written_faults())
     yield from every(2, cases.written_lists())
@@ -82,11 +83,28 @@ def writes(dice):
     yield from (cases.some_write(dice) for _ in range(RANDOM_WRITES))
 
 
+def levels(dice):
+    yield from cases.single_readings()
+    yield from every(2, cases.reading_pairs())
+    yield from cases.zeros_in_a_row()
+    yield from every(3, cases.level_place_faults())
+    yield from every(5, cases.turn_place_faults())
+    yield from every(7, cases.level_lists())
+    yield from every(3, cases.turn_rooms())
+    yield from every(8, cases.part_extents())
+    yield from every(5, cases.part_faults())
+    yield from cases.few_part_turns()
+    yield from every(2, cases.plateaus())
+    yield from every(4, cases.longest_levels())
+    yield from (cases.some_level_scan(dice) for _ in range(RANDOM_LEVEL_SCANS))
+    yield from (cases.some_turn(dice) for _ in range(RANDOM_TURNS))
+
+
 def recorded():
     dice = cases.Dice(SEED)
     random_ones = [maker(dice) for maker, count in zip(cases.SOME, RANDOM) for _ in range(count)]
     first_rows = [*tables(), *boundaries(dice), *dice.shuffled(random_ones)]
-    return [*first_rows, *writes(cases.Dice(WRITE_SEED))]
+    return [*first_rows, *writes(cases.Dice(WRITE_SEED)), *levels(cases.Dice(LEVEL_SEED))]
 
 
 def main():

@@ -13,9 +13,11 @@ Numbers in a case are little-endian: b is 1 byte, h 2, w 4, q 8. A list is its e
 | 7 power-fit | q base, q exponent | 1 or 0 |
 | 8 plain number | b width, b mark, q number | code place number |
 | 9 write | b edition 1, w first block number, h n, h k, w j, n q of numbers, k marks, to be written to a run of j bytes, each 170 | code place length, then the j bytes afterwards |
+| 10 level scan | h n, h k, n w of float bits, k ground marks | code place least greatest, these two as bits |
+| 11 level to field | h n, h k, h i, h j, n w of float bits, k ground marks, to be turned into i numbers, each 7777777, and j marks, each 170 | code place, then the i numbers and j marks afterwards |
 
-Lists are at most 4,096 elements, those of row 9 at most 8,192, and runs of blocks at most 65,536 bytes. What an answer
-doesn't have is 0.
+Lists are at most 4,096 elements, those of rows 9 to 11 at most 8,192, and runs of blocks at most 65,536 bytes. What an
+answer doesn't have is 0.
 """
 import struct
 from typing import NamedTuple
@@ -23,7 +25,7 @@ from typing import NamedTuple
 import model
 
 LIST, RUN = 4096, 65536
-# The most elements of a list of row 9.
+# The most elements of a list of rows 9 to 11.
 FIELD = 8192
 NUMBER_BEFORE, MARK_BEFORE, BYTE_BEFORE = 7777777, 9, 170
 
@@ -250,7 +252,54 @@ class Write(NamedTuple):
         )
 
 
-ROWS = (Run, Scan, Read, Search, Operation, Signed, Fit, Plain, Write)
+def words_of(numbers):
+    return struct.pack(f"<{len(numbers)}I", *numbers)
+
+
+def level_words(level, ground):
+    return f"{len(level)} readings {' '.join(f'{bits:08x}' for bits in level)} with ground marks {list(ground)}"
+
+
+class LevelScan(NamedTuple):
+    level: tuple
+    ground: bytes
+
+    name = "level scan"
+
+    def encode(self):
+        return struct.pack("<BHH", 10, len(self.level), len(self.ground)) + words_of(self.level) + self.ground
+
+    def line(self):
+        return line(model.scan_level(self.level, self.ground))
+
+    def words(self):
+        return f"scan of {level_words(self.level, self.ground)}"
+
+
+class Turn(NamedTuple):
+    level: tuple
+    ground: bytes
+    room_numbers: int
+    room_marks: int
+
+    name = "level to field"
+
+    def encode(self):
+        counts = len(self.level), len(self.ground), self.room_numbers, self.room_marks
+        return struct.pack("<BHHHH", 11, *counts) + words_of(self.level) + self.ground
+
+    def line(self):
+        code, place, numbers = model.turn(self.level, self.ground, self.room_numbers, self.room_marks)
+        numbers_after = numbers + [NUMBER_BEFORE] * (self.room_numbers - len(numbers))
+        marks_after = [0] * len(numbers) + [BYTE_BEFORE] * (self.room_marks - len(numbers))
+        return line([code, place, *numbers_after, *marks_after])
+
+    def words(self):
+        rooms = f"{self.room_numbers} numbers and {self.room_marks} marks"
+        return f"a field into {rooms} of {level_words(self.level, self.ground)}"
+
+
+ROWS = (Run, Scan, Read, Search, Operation, Signed, Fit, Plain, Write, LevelScan, Turn)
 
 
 def encode(cases):

@@ -1,6 +1,9 @@
 #!/usr/bin/env python3
 """The model against the rules' own tables, and against true unlimited numbers at 8 bits."""
+import math
+import struct
 import unittest
+from fractions import Fraction
 
 import cases
 import model
@@ -77,6 +80,79 @@ class Tables(unittest.TestCase):
         ):
             self.assertEqual(model.write(first, numbers, marks, room), (*wanted, b""))
 
+    def test_readings(self):
+        """Readings against the numbers that they are said to be."""
+        for bits, number in (
+            (cases.ZERO, 0),
+            (cases.MINUS_ZERO, 0),
+            (cases.ONE, 1),
+            (cases.MINUS_ONE, -1),
+            (cases.HALF, Fraction(1, 2)),
+            (cases.ONE_AND_A_HALF, Fraction(3, 2)),
+            (cases.TINY, Fraction(1, 2**149)),
+            (cases.SUBNORMAL, Fraction(2**23 - 1, 2**149)),
+            (cases.NORMAL, Fraction(1, 2**126)),
+            (cases.LAST_WHOLE, 16777215),
+            (cases.PAST_WHOLE, 16777216),
+            (model.bits_of_whole(2**23) - 1, Fraction(16777215, 2)),
+            (cases.HUGE, (2**24 - 1) * 2**104),
+        ):
+            self.assertTrue(model.is_usable(bits))
+            self.assertEqual(Fraction(model.exact(bits), model.UNIT), number)
+        for bits in (*cases.NANS, *cases.INFINITIES):
+            self.assertFalse(model.is_usable(bits))
+
+    def test_extents(self):
+        """The earliest of equals with its bits, and what is under the ground counts."""
+        zero, minus, one, below = cases.ZERO, cases.MINUS_ZERO, cases.ONE, cases.MINUS_ONE
+        for level, extent in (
+            ([zero, minus], (zero, zero)),
+            ([minus, zero], (minus, minus)),
+            ([one, minus, zero], (minus, one)),
+            ([one, zero, minus], (zero, one)),
+            ([below, minus, zero], (below, minus)),
+            ([minus + 1, zero, minus], (minus + 1, zero)),
+            ([cases.TINY, cases.NORMAL], (cases.TINY, cases.NORMAL)),
+        ):
+            for ground in (bytes(len(level)), b"\1" * len(level)):
+                self.assertEqual(model.scan_level(level, ground), (0, 0, *extent))
+
+    def test_refusals_of_a_level(self):
+        """Each refusal alone, and each before those that come after it."""
+        one, half, nan, infinite = cases.ONE, cases.HALF, cases.NANS[0], cases.INFINITIES[0]
+        for wanted, level, ground in (
+            ((6, 0), [nan], b""),
+            ((6, 0), [], b"\2"),
+            ((14, 0), [], b""),
+            ((15, 1), [one, nan], b"\0\2"),
+            ((15, 0), [one, nan], b"\3\0"),
+            ((22, 0), [nan, one], b"\0\2"),
+            ((22, 1), [half, infinite, nan], bytes(3)),
+        ):
+            self.assertEqual(model.scan_level(level, ground), (*wanted, 0, 0))
+        for wanted, level, ground, numbers, marks in (
+            ((6, 0), [half], b"", 0, 0),
+            ((14, 0), [], b"", 0, 0),
+            ((19, 0), [half, nan], b"\2\0", 1, 2),
+            ((19, 0), [half, nan], b"\2\0", 2, 1),
+            ((15, 0), [nan, half], b"\2\0", 2, 2),
+            ((22, 0), [nan, half], b"\1\2", 2, 2),
+            ((23, 0), [half, nan], b"\1\2", 2, 2),
+            ((23, 1), [cases.LAST_WHOLE, cases.PAST_WHOLE], b"\1\0", 9, 9),
+        ):
+            self.assertEqual(model.turn(level, ground, numbers, marks), (*wanted, []))
+
+    def test_turned(self):
+        level, numbers = [cases.MINUS_ZERO, cases.ONE, cases.LAST_WHOLE], [0, 1, 16777215]
+        self.assertEqual(model.turn(level, bytes(3), 3, 4), (0, 0, numbers))
+
+    def test_accident(self):
+        """One NaN in a plateau of 65,536 readings is named by its place."""
+        n, place = 65536, 40000
+        accident, sound = cases.plateau(n, place), cases.plateau(n)
+        self.assertEqual(model.scan_level(*accident), (22, place, 0, 0))
+        self.assertEqual(model.scan_level(*sound)[:2], (0, 0))
+
     def test_roots(self):
         self.assertEqual([cases.root_of(e) for e in (2, 40, 41, 63, 64)], [4294967295, 3, 2, 2, 1])
 
@@ -113,6 +189,25 @@ class Meanings(unittest.TestCase):
                 by_steps = model.run_by_steps(255, kinds, numbers, allowance)
                 self.assertEqual(by_steps, model.run_by_meaning(255, kinds, numbers, allowance, FAR))
 
+    def test_readings_are_the_machine_s_floats(self):
+        """A reading's exact number, whether it is usable and whether it is whole, against Python's own floats."""
+        dice = cases.Dice(32)
+        some = [dice.bits(32) for _ in range(3000)] + [cases.some_whole(dice) for _ in range(500)]
+        for bits in (*some, *cases.NOT_WHOLE, *cases.WHOLE, *cases.NANS, *cases.INFINITIES):
+            (number,) = struct.unpack("<f", bits.to_bytes(4, "little"))
+            self.assertEqual(model.is_usable(bits), math.isfinite(number))
+            whole = math.isfinite(number) and number.is_integer() and 0 <= number < 2**24
+            self.assertEqual(model.whole_by_bits(bits), whole)
+            if math.isfinite(number):
+                self.assertEqual(Fraction(model.exact(bits), model.UNIT), Fraction(number))
+                self.assertEqual(model.whole_by_number(bits), whole)
+
+    def test_order_is_that_of_the_numbers(self):
+        numbers = sorted({*cases.SIZES, *(cases.SIGN + size for size in cases.SIZES), *cases.WHOLE, *cases.NOT_WHOLE})
+        for a in numbers:
+            for b in numbers:
+                self.assertEqual(model.order(a) < model.order(b), model.exact(a) < model.exact(b))
+
     def test_bound_is_reached(self):
         for case in cases.longest_runs():
             n = len(case.kinds)
@@ -130,7 +225,7 @@ class Makers(unittest.TestCase):
         dice = cases.Dice(1)
         some = [maker(dice) for maker in cases.SOME for _ in range(1500) if maker is not cases.some_fit]
         met = {int(line.split()[0]) for line in rows.lines(some)}
-        self.assertEqual(met, set(range(22)) - {13})
+        self.assertEqual(met, set(range(24)) - {13})
 
     def test_the_same_seed_gives_the_same_cases(self):
         first, second = cases.Dice(2), cases.Dice(2)

@@ -97,12 +97,12 @@ module _ {A S : Type 0} (code : S → ℕ) (values : S → A) (refused : S → R
     gives : code (told x) ≡ 0 → values (told x) ≡ x → Told told x
     refuses : (r : Refusal) → code (told x) ≡ numberOf r → refused (told x) r ≡ x → Told told x
 
-  module _ (told : A → S) (each : (x : A) → Told told x) where
-    pub told-back : (x : A) → back (told x) ≡ x
+  module _ (told : A → S) where
+    back-here : (x : A) → Told told x → back (told x) ≡ x
     unfolding back
-    told-back x =
+    back-here x here =
         let s = told x in
-        elim (each x) [
+        elim here [
           | gives z e ↦ ap (λ t. cond t (values s) (refused s (refusalOf (code s)))) (eq-eqb (code s) 0 z) ∙ e
           | refuses r c e ↦
               ap (λ n. cond (eqb n 0) (values s) (refused s (refusalOf n))) c
@@ -111,9 +111,16 @@ module _ {A S : Type 0} (code : S → ℕ) (values : S → A) (refused : S → R
               ∙ e
         ]
 
-    -- so no two answers have the same numbers
-    pub told-apart : (x y : A) → told x ≡ told y → x ≡ y
-    told-apart = one told back told-back
+    -- so no two such answers have the same numbers
+    pub both-told-apart : (x y : A) → Told told x → Told told y → told x ≡ told y → x ≡ y
+    both-told-apart x y p q e = sym (back-here x p) ∙ ap back e ∙ back-here y q
+
+    module _ (each : (x : A) → Told told x) where
+      pub told-back : (x : A) → back (told x) ≡ x
+      told-back x = back-here x (each x)
+
+      pub told-apart : (x y : A) → told x ≡ told y → x ≡ y
+      told-apart x y = both-told-apart x y (each x) (each y)
 
 -- the value that an answer gives
 abbrev pub valueIn : Paper → Value

@@ -13,7 +13,7 @@ use lib.Dec.{eqb, leb}
 use lib.ListN.{length, getD, List·getD-eq-default}
 use Rattle.places.specs.Places.{every}
 use Rattle.places.specs.Faults.{firstFault, NoFaultBefore}
-use Rattle.places.proofs.Every.{every-at, every-more}
+use Rattle.places.proofs.Every.{every-at, every-more, larger-within}
 use Rattle.places.proofs.Faults.{first-fault-is, no-fault-is}
 use Rattle.little.specs.Zeros.{zeros}
 use Rattle.little.proofs.Zeros.{zeros-at}
@@ -52,19 +52,6 @@ module _ (mark number : ℕ) where
 
 -- ---- all places together
 
--- the larger of two is at most 1 exactly when both are
-larger-small : (a b : ℕ) → leb (max a b) 1 ≡ (leb a 1 && leb b 1)
-larger-small a b =
-    elim (decLt 1 a) [
-      | yes h ↦ lt-leb (max a b) 1 (omega arith) ∙ ap (λ t. t && leb b 1) (sym (lt-leb a 1 h))
-      | no h ↦
-          let e = le-leb a 1 (omega arith) in
-          elim (decLt 1 b) [
-            | yes k ↦ lt-leb (max a b) 1 (omega arith) ∙ sym (ap₂ _&&_ e (lt-leb b 1 k))
-            | no k ↦ le-leb (max a b) 1 (omega arith) ∙ sym (ap₂ _&&_ e (le-leb b 1 (omega arith)))
-          ]
-    ]
-
 swapped : (p q r s : Bool) → ((p && q) && (r && s)) ≡ ((p && r) && (q && s))
 swapped true true r s = refl
 swapped true false true s = refl
@@ -81,7 +68,7 @@ together-turn numbers marks i most any e p q =
     let mark = getD marks i 0 in
     let number = getD numbers i 0 in
     ap₂ (λ m a. leb m 1 && eqb a 0) p q
-    ∙ ap₂ _&&_ (larger-small most mark) (or-zero any (cond (eqb mark 0) 0 number))
+    ∙ ap₂ _&&_ (larger-within most mark 1) (or-zero any (cond (eqb mark 0) 0 number))
     ∙ swapped (leb most 1) (leb mark 1) (eqb any 0) (eqb (cond (eqb mark 0) 0 number) 0)
     ∙ ap₂ _&&_ e (marked-together mark number)
     ∙ sym (every-more (wellMarkedAt numbers marks) i)

@@ -13,7 +13,8 @@ use Rattle.whole.specs.div-mod.{rust-div, _/ℤ_}
 use Rattle.checked.specs.Value.{checkedOf}
 use Rattle.checked.specs.declared.types.Checked64.the-variants.{Fits, Overflowed}
 use Rattle.signed.specs.Signed.{quotientOf}
-use Rattle.hosts.specs.Entry.{answerCode, answerList, signedCode, signedList}
+use Rattle.entry.specs.Entry.{answerCode, answerList}
+use Rattle.hosts.specs.Entry.{signedCode, signedList}
 use Rattle.hosts.specs.Answers.{ofShape, ofRun, phaseWords, markWords}
 
 -- '7 0 quotient' is well formed at 8 bits: the place 0 and the limit, and the last nine stays; a list of one number is

@@ -7,8 +7,8 @@
 use mathlib.Core.Path.{_≡_, refl, sym, ap, _∙_}
 use mathlib.Core.Logic.{_↔_, _⊎_, inl, inr, ⊎-elim}
 use mathlib.Core.Bool.{Bool, true, false, cond}
-use mathlib.Core.List.{List, _∷_, _++_}
-use Prim.Native.Nat.{ℕ, _+_, _^_, _≤_, _<_}
+use mathlib.Core.List.{List, _∷_}
+use Prim.Native.Nat.{ℕ, _^_, _≤_, _<_}
 use native.Mathlib.Decide.{decLt}
 use native.Mathlib.Omega.{arith}
 use borrow.Author.Tests.{ne-eqb}
@@ -20,7 +20,6 @@ use Rattle.fit.proofs.Promises.{power-fits-exactly}
 use Rattle.signed.specs.Signed.{Answer, refused, quotientOf, remainderOf, inRange, smallest}
 use Rattle.signed.proofs.Promises.{one-exactly, four-exactly, quotient-only-codes, remainder-one-exactly}
 use Rattle.signed.proofs.Promises.{remainder-only-codes}
-use Rattle.little.proofs.Stored.{put-there, put-nowhere, length-put}
 use Rattle.layout.specs.Reading.{readFault, readingOf, numbersAfter, marksAfter}
 use Rattle.layout.specs.Layout.{count, editionOf}
 use Rattle.layout.specs.Sound.{faultOf}
@@ -40,41 +39,28 @@ use Rattle.search.specs.Search.{Searched, searchOf}
 use Rattle.search.proofs.Promises as search
 use Rattle.recipe.specs.Run.{runOf}
 use Rattle.recipe.proofs.Promises as run
-use Rattle.hosts.specs.Entry.{Told, Room, answerCode, answerList, signedCode, signedList}
+use Rattle.entry.specs.Entry.{Told, Room, answerCode}
+use Rattle.hosts.specs.Entry.{signedCode, signedList}
 use Rattle.hosts.specs.Answers.{ofShape, ofScan, ofReading, ofWriting, ofSearch, ofRun}
 use Rattle.hosts.specs.Answers.{numbersBeside, marksBeside, runBeside}
-use Rattle.hosts.proofs.Entries.{short-returned, roomy-returned, short-beside, roomy-beside, reading-code}
+use Rattle.entry.proofs.Entries.{roomy-returned, short-beside, roomy-beside}
+use Rattle.entry.proofs.Exactly.{no-room-exactly}
+use Rattle.hosts.proofs.Entries.{reading-code}
 use Rattle.hosts.proofs.Signed.{short-signed-returned}
 use Rattle.hosts.proofs.Signed.{refused-signed-stays, number-signed-written}
 use Rattle.hosts.proofs.Signed.{quotient-refused, remainder-refused}
-use Rattle.hosts.proofs.Exactly.{no-room-exactly, signed-no-room-exactly, signed-exactly}
+use Rattle.hosts.proofs.Exactly.{signed-no-room-exactly, signed-exactly}
 use Rattle.hosts.proofs.Runs.{run-of-words}
--- 19 exactly when there is no room, or it is the answer's own number; any other number exactly when there is room and
--- it is the answer's own; and so of one signed number
-pub use Rattle.hosts.proofs.Exactly.{answer-19-exactly, answer-code-exactly, signed-code-exactly}
+-- the room for an answer comes first, 19 and any other number exactly, where the answer stands, and that its list stays
+-- as long
+pub use Rattle.entry.proofs.Promises.{no-room-refused-first, answer-19-exactly, answer-code-exactly}
+pub use Rattle.entry.proofs.Promises.{answer-written, answer-length-stays}
+-- any number but 19 exactly when there is room and it is the answer's own, of one signed number
+pub use Rattle.hosts.proofs.Exactly.{signed-code-exactly}
 -- of a run's four numbers of marks the bytes are the 32 marks, bottom first
 pub use Rattle.hosts.proofs.Runs.{marks-as-bytes}
 
 -- ---- answers of several numbers
-
-module _ (t : Told) (lent : List ℕ) where
-  -- whatever the answer is, a list without room for it is refused with 19, and stays
-  pub no-room-refused-first : length lent < length (t .words) → (answerCode t lent ≡ 19) × (answerList t lent ≡ lent)
-  no-room-refused-first h = (short-returned t lent h, put-nowhere 0 (t .words) lent (omega arith))
-
-  -- where there is room the answer's numbers stand in the first places, on a refusal too, and later ones stay
-  pub answer-written : Room t lent → answerList t lent ≡ t .words ++ drop (length (t .words)) lent
-  answer-written h =
-      put-there 0 (t .words) lent (omega arith)
-      ∙ ap (λ k. t .words ++ drop k lent) (let e : 0 + length (t .words) ≡ length (t .words) = omega arith in e)
-
-  -- the list gets neither longer nor shorter
-  pub answer-length-stays : length (answerList t lent) ≡ length lent
-  answer-length-stays =
-      elim (decLt (length lent) (length (t .words))) [
-        | yes h ↦ ap length (put-nowhere 0 (t .words) lent (omega arith))
-        | no n ↦ length-put 0 (t .words) lent (omega arith)
-      ]
 
 -- how many numbers each answer has
 pub answer-lengths

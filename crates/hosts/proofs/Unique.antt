@@ -9,7 +9,8 @@ use Rattle.layout.specs.Editions.{one}
 use Rattle.layout.specs.Reading.{readingOf}
 use Rattle.written.specs.Writing.{writingOf}
 use Rattle.little.proofs.Unique.{value-unique}
-use Rattle.hosts.specs.Entry.{Told, answerCode, answerList, signedCode, signedList}
+use Rattle.entry.specs.Entry.{Told, answerCode, answerList}
+use Rattle.hosts.specs.Entry.{signedCode, signedList}
 use Rattle.hosts.specs.Answers.{ofReading, ofWriting, numbersBeside, marksBeside, runBeside}
 use Rattle.hosts.specs.Answers.{ReadsForHost, WritesForHost}
 

@@ -16,7 +16,7 @@ use Rattle.layout.specs.Reading.{Reading, readingOf, numbersAfter, marksAfter}
 use Rattle.written.specs.Writing.{Writing, writingOf, runAfter}
 use Rattle.search.specs.Search.{Searched}
 use Rattle.hosts.specs.declared.types.PhaseNumbers.{PhaseNumbers}
-use Rattle.hosts.specs.Entry.{Told, answerCode, answerList, besides}
+use Rattle.entry.specs.Entry.{Told, answerCode, answerList, besides}
 
 abbrev pub ofShape : Verdict → Told
 ofShape v = record { code = v .code; words = v .place ∷ v .limit ∷ [] }

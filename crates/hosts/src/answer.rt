@@ -1,5 +1,4 @@
 // Numbers stored in the first places of a lent list.
-use checked::refusal::Refusal;
 ghost use mathlib.Core.Path.{_≡_};
 ghost use mathlib.Core.List.{[], _∷_};
 ghost use Prim.Native.Nat.{_≤_};
@@ -33,12 +32,4 @@ pub(crate) fn put_four(answer: &mut [u64], first: u64, second: u64, third: u64, 
     answer[1] = second;
     answer[2] = third;
     answer[3] = fourth;
-}
-
-// What is returned where a list is too short, whatever the answer would be.
-pub(crate) fn too_short() -> u32
-    ensures { λ r. ⌜ r ≡ 19 ⌝ }
-{
-    let refusal = Refusal::ListTooShort;
-    refusal.number()
 }

@@ -2,11 +2,11 @@
 use crate::answer::put_four;
 use crate::answer::put_three;
 use crate::answer::put_two;
-use crate::answer::too_short;
 use block::read::read;
 use block::sound::sound;
 use block::types::Read;
 use block::types::Sound;
+use entry::room::too_short;
 use search::search::search;
 use search::types::Found;
 use write::types::Write;
@@ -17,7 +17,7 @@ ghost use Rattle.layout.specs.Reading.{readingOf};
 ghost use Rattle.block.specs.Answers.{soundOf};
 ghost use Rattle.search.specs.Search.{searchOf};
 ghost use Rattle.written.specs.Writing.{writingOf};
-ghost use Rattle.hosts.specs.Entry.{answerCode, answerList};
+ghost use Rattle.entry.specs.Entry.{answerCode, answerList};
 ghost use Rattle.hosts.specs.Answers.{ofReading, ofWriting, ofSearch, numbersBeside, marksBeside, runBeside};
 
 // The refusal's place, which is 0, with the block's number and count.

@@ -1,11 +1,11 @@
 // The scan of a field.
 use crate::answer::put_four;
-use crate::answer::too_short;
+use entry::room::too_short;
 use field::scan::scan;
 use field::types::Scan;
 ghost use mathlib.Core.Path.{_≡_};
 ghost use Rattle.field.specs.Range.{scanOf};
-ghost use Rattle.hosts.specs.Entry.{answerCode, answerList};
+ghost use Rattle.entry.specs.Entry.{answerCode, answerList};
 ghost use Rattle.hosts.specs.Answers.{ofScan};
 
 // The refusal's place, or 0 with least, greatest and packing width.

@@ -1,5 +1,5 @@
 // Entries on single numbers.
-use crate::answer::too_short;
+use entry::room::too_short;
 use fit::power_fits;
 use signed::divide::quotient64;
 use signed::divide::remainder64;

@@ -1,12 +1,12 @@
 // The run of a recipe, and its shape alone.
 use crate::answer::put_two;
-use crate::answer::too_short;
 use crate::state::in_numbers;
 use crate::state::put_answer;
 use crate::state::put_marks;
 use crate::state::put_numbers;
 use crate::state::put_phase;
 use checked::types::Checked64;
+use entry::room::too_short;
 use recipe::run::run;
 use recipe::types::Answer;
 use recipe::types::Run;
@@ -19,7 +19,7 @@ ghost use lib.Seq.{sets};
 ghost use Rattle.checked.specs.Paper.{given};
 ghost use Rattle.shape.specs.Shape.{shapeOf};
 ghost use Rattle.recipe.specs.Run.{answerOf, paper, runOf};
-ghost use Rattle.hosts.specs.Entry.{answerCode, answerList};
+ghost use Rattle.entry.specs.Entry.{answerCode, answerList};
 ghost use Rattle.hosts.specs.Answers.{ofShape, headOf, ofRun};
 
 // The refusal's place, or 0 with the largest number of the width.

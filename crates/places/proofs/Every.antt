@@ -2,9 +2,11 @@
 -- Assumes nothing.
 use mathlib.Core.Path.{_≡_, refl, ap, ap₂, sym, _∙_, subst}
 use mathlib.Core.Bool.{Bool, true, false, _&&_, false≢true, and-false}
-use Prim.Native.Nat.{ℕ, zero, suc, _<_}
-use native.Mathlib.Decide.{ℕ-discrete}
+use Prim.Native.Nat.{ℕ, zero, suc, _<_, max}
+use native.Mathlib.Decide.{ℕ-discrete, decLt}
 use native.Mathlib.Omega.{arith}
+use borrow.Author.Tests.{le-leb, lt-leb}
+use lib.Dec.{leb}
 use Rattle.places.specs.Places.{every}
 
 -- ---- tests
@@ -18,6 +20,19 @@ pub same-truth : (s t : Bool) → (s ≡ true → t ≡ true) → (t ≡ true �
 same-truth true t f g = sym (f refl)
 same-truth false true f g = g refl
 same-truth false false f g = refl
+
+-- the larger of two is within a limit exactly when both are
+pub larger-within : (a b limit : ℕ) → leb (max a b) limit ≡ (leb a limit && leb b limit)
+larger-within a b limit =
+    elim (decLt limit a) [
+      | yes h ↦ lt-leb (max a b) limit (omega arith) ∙ ap (λ t. t && leb b limit) (sym (lt-leb a limit h))
+      | no h ↦
+          let e = le-leb a limit (omega arith) in
+          elim (decLt limit b) [
+            | yes k ↦ lt-leb (max a b) limit (omega arith) ∙ sym (ap₂ _&&_ e (lt-leb b limit k))
+            | no k ↦ le-leb (max a b) limit (omega arith) ∙ sym (ap₂ _&&_ e (le-leb b limit (omega arith)))
+          ]
+    ]
 
 -- ---- every place
 

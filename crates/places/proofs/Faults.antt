@@ -3,8 +3,8 @@
 -- Assumes nothing.
 use mathlib.Core.Path.{_≡_, refl, ap, sym, _∙_, subst}
 use mathlib.Core.Logic.{_↔_}
-use mathlib.Core.Bool.{not, cond}
-use Prim.Native.Nat.{ℕ, _+_, _<_}
+use mathlib.Core.Bool.{true, false, not, cond}
+use Prim.Native.Nat.{ℕ, _+_, _≤_, _<_}
 use native.Mathlib.Decide.{ℕ-discrete, decLt}
 use native.Mathlib.Nat.{zero-add}
 use native.Mathlib.Omega.{arith}
@@ -43,7 +43,7 @@ module _ (fault : ℕ → ℕ) (n : ℕ) where
   none-before-first j h =
       eqb-true (fault j) 0 (not-false (eqb (fault j) 0) (none-before (faulty fault) 0 n j (omega arith) h))
 
-  first-has-fault : firstFault fault n < n → fault (firstFault fault n) ≡ 0 → ⊥
+  pub first-has-fault : firstFault fault n < n → fault (firstFault fault n) ≡ 0 → ⊥
   first-has-fault h =
       let p = firstFault fault n in
       let l : p < 0 + n = omega arith in
@@ -62,6 +62,42 @@ module _ (fault : ℕ → ℕ) (n : ℕ) where
         | yes h ↦ faulty-at p (first-has-fault h) (h, refl, none-before-first)
         | no h ↦ faultless (λ j k. none-before-first j (omega arith))
       ]
+
+  -- it is one of the places where it can't be that none has one
+  pub fault-ahead : (NoFaultBefore fault n → ⊥) → firstFault fault n < n
+  fault-ahead some =
+      elim walk [
+        | faultless b ↦ absurd (some b)
+        | faulty-at i m f ↦ let h = f .0 in let e = first-fault-is i h m (f .2) in omega arith
+      ]
+
+  -- ---- the walk to it, where it is one of the places
+
+  module _ (i : ℕ) (some : firstFault fault n < n) where
+    -- it isn't among places that have none
+    pub not-past-fault : NoFaultBefore fault i → i ≤ firstFault fault n
+    not-past-fault b =
+        elim (decLt (firstFault fault n) i) [
+          | yes k ↦ absurd (first-has-fault some (b (firstFault fault n) k))
+          | no k ↦ omega arith
+        ]
+
+    module _ (upto : i ≤ firstFault fault n) where
+      -- a place without a fault is before it
+      pub passed : eqb (fault i) 0 ≡ true → i + 1 ≤ firstFault fault n
+      passed e =
+          elim (ℕ-discrete i (firstFault fault n)) [
+            | yes p ↦ absurd (first-has-fault some (ap fault (sym p) ∙ eqb-true (fault i) 0 e))
+            | no p ↦ omega arith
+          ]
+
+      -- a place with one is it
+      pub reached : eqb (fault i) 0 ≡ false → i ≡ firstFault fault n
+      reached e =
+          elim (decLt i (firstFault fault n)) [
+            | yes k ↦ absurd (eqb-false (fault i) 0 e (none-before-first i k))
+            | no k ↦ omega arith
+          ]
 
   -- ---- what is answered there
 

@@ -1,4 +1,5 @@
 // A file that is read in parts.
+use crate::text::fail;
 use crate::text::same;
 use libc::STDIN_FILENO;
 
@@ -32,6 +33,22 @@ pub(crate) fn fill(fd: i32, part: &mut [u8]) -> Filled {
         have = have + more;
     }
     Filled::Full
+}
+
+// How many bytes of the part were filled, which are fewer than it has only where the input ended. A count past its end says
+// that a read failed, and that was told. Where there is no file, and so no descriptor, this many count as filled.
+pub(crate) fn take(fd: i32, name: &[u8], part: &mut [u8], without: usize) -> usize {
+    if fd < 0 {
+        return without;
+    }
+    match fill(fd, part) {
+        Filled::Full => part.len(),
+        Filled::Ended(count) => count,
+        Filled::Failed(_) => {
+            fail(name);
+            usize::MAX
+        }
+    }
 }
 
 // How many of so many bytes are in whole blocks.

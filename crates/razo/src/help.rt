@@ -16,6 +16,9 @@ razo read FILE..
 razo write FIRST FILE
     the blocks of a file of numbers, to standard output: 55 values in each but
     the last, which has what is left, and block numbers from FIRST on
+razo level VALUES [GROUND]
+    the least and the greatest reading of a level, exactly and with their bits;
+    or the first bad place, and why it is bad
 razo run WIDTH ALLOWANCE WORD..
     a recipe at 8, 16, 32 or 64 bits: its answer and steps, or its refusal, or
     the state in which its allowance was spent
@@ -32,6 +35,9 @@ remainder, power, logarithm. Blocks, places and words are counted from 0.
 The FILE of 'write' has words with white space between them: numbers below 2^64,
 or 'overflowed'. At the first that is neither, nothing more is written.
 
+VALUES has 32-bit floats, the lowest byte first, and GROUND a byte for each: 0
+where it is in the air, 1 under the ground. Without GROUND all are in the air.
+
 The exit status is
     0  where all is well
     1  where an overflowed value was found, a block is bad, or a recipe's answer
@@ -42,6 +48,7 @@ The exit status is
     razo search blocks.dat
     razo read monday.blocks tuesday.blocks
     razo write 0 numbers.txt >numbers.blocks
+    razo level temperature.f32 ground.marks
     razo run 8 100 255 1 sum 0 product
 ",
     );

@@ -1,6 +1,8 @@
-// razo: the tool for operators at a terminal, over the library. It looks into files of blocks and runs recipes.
+// razo: the tool for operators at a terminal, over the library. It looks into files of blocks and levels and runs recipes.
+mod exact;
 mod file;
 mod help;
+mod level_command;
 mod lists;
 mod read_command;
 mod reason;
@@ -14,6 +16,7 @@ mod write_command;
 
 use crate::file::open;
 use crate::help::help;
+use crate::level_command::level_command;
 use crate::lists::number_of;
 use crate::read_command::read_parts;
 use crate::run_command::Given;
@@ -129,13 +132,49 @@ fn on_numbers(words: usize) -> u8 {
     on_file(Command::Write(number), 3, false)
 }
 
+// The level in a file, with the ground marks in another that the fourth word names, if there is one.
+fn on_ground(values: &[u8], words: usize) -> u8 {
+    if words == 3 {
+        return level_command(values, b"", false);
+    }
+    let mut space = io::buffer();
+    let ground: &mut [u8] = &mut space;
+    let length = os::arg(3, ground);
+    if os::errno() != 0 {
+        return complain_too_long(b"razo: '", ground);
+    }
+    level_command(values, first(ground, length), true)
+}
+
+fn on_level(words: usize) -> u8 {
+    if words < 3 || 4 < words {
+        return complain(
+            b"razo: '",
+            b"level",
+            b"' takes VALUES and, if not all is air, GROUND: names, or '-' for standard input\n",
+        );
+    }
+    let mut space = io::buffer();
+    let values: &mut [u8] = &mut space;
+    let length = os::arg(2, values);
+    if os::errno() != 0 {
+        return complain_too_long(b"razo: '", values);
+    }
+    on_ground(first(values, length), words)
+}
+
 fn obey(said: &[u8], words: usize) -> u8 {
-    match number_of(said, 7, b"search\nread\nrun\nwrite\n--help\n-h\nhelp\n") {
+    match number_of(
+        said,
+        8,
+        b"search\nread\nrun\nwrite\nlevel\n--help\n-h\nhelp\n",
+    ) {
         1 => on_files(Command::Search, said, words),
         2 => on_files(Command::Read, said, words),
         3 => run_command(words),
         4 => on_numbers(words),
-        5..=7 => help(STDOUT_FILENO),
+        5 => on_level(words),
+        6..=8 => help(STDOUT_FILENO),
         _ => complain(
             b"razo: '",
             said,

@@ -1,5 +1,7 @@
 // Refusals in words.
 use crate::lists::line_of;
+use crate::text::complain_form;
+use crate::text::first;
 use crate::text::put_form;
 use checked::refusal::Refusal;
 use lines::put::word;
@@ -40,4 +42,13 @@ pub(crate) fn reason(line: &mut [u8], from: usize, refusal: Refusal) -> usize {
     let number = refusal.number();
     let at = put_phrase(line, from, number);
     put_form(line, at, b" (refusal #)", &[number as u64])
+}
+
+// One line on standard error about a file: a form with its numbers, and then a refusal.
+pub(crate) fn complain_refusal(name: &[u8], form: &[u8], numbers: &[u64], refusal: Refusal) -> u8 {
+    let mut space = [0u8; 128];
+    let why: &mut [u8] = &mut space;
+    let mut at = reason(why, 0, refusal);
+    at = word(why, at, b"\n");
+    complain_form(name, form, numbers, first(why, at))
 }

@@ -146,6 +146,15 @@ pub(crate) fn complain(before: &[u8], said: &[u8], behind: &[u8]) -> u8 {
     WRONG
 }
 
+// One line on standard error about a file: a form with its numbers, and what stands after it.
+pub(crate) fn complain_form(name: &[u8], form: &[u8], numbers: &[u64], behind: &[u8]) -> u8 {
+    let mut space = [0u8; 256];
+    let what: &mut [u8] = &mut space;
+    let mut at = put_form(what, 0, form, numbers);
+    at = word(what, at, behind);
+    complain(b"razo: ", name, first(what, at))
+}
+
 // A word that no place here holds is shown by its first bytes.
 pub(crate) fn complain_too_long(before: &[u8], said: &[u8]) -> u8 {
     complain(

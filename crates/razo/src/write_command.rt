@@ -2,7 +2,7 @@
 use crate::file::Filled;
 use crate::file::count_on;
 use crate::file::fill;
-use crate::reason::reason;
+use crate::reason::complain_refusal;
 use crate::status::WELL;
 use crate::status::WRONG;
 use crate::status::told;
@@ -108,15 +108,6 @@ fn complain_said(name: &[u8], line: u64, said: &[u8]) -> u8 {
             b"' is neither a number nor 'overflowed'\n",
         ),
     }
-}
-
-fn complain_refusal(name: &[u8], refusal: Refusal) -> u8 {
-    let mut space = [0u8; 256];
-    let what: &mut [u8] = &mut space;
-    let mut at = word(what, 0, b": ");
-    at = reason(what, at, refusal);
-    at = word(what, at, b"\n");
-    complain(b"razo: ", name, first(what, at))
 }
 
 fn is_white(byte: u8) -> bool {
@@ -239,7 +230,7 @@ fn next_part(fd: i32, name: &[u8], part: &mut [u8], so_far: Progress) -> Writing
 // Writes the blocks of the first values, and gives the status. Where there is no value, the library refuses.
 fn put_out(name: &[u8], numbers: &[u64], marks: &[u8], held: usize, next: u64) -> u8 {
     if LARGEST_BLOCK_NUMBER < next {
-        return complain_refusal(name, Refusal::BlockNumberTooLarge);
+        return complain_refusal(name, b": ", &[0], Refusal::BlockNumberTooLarge);
     }
     if numbers.len() < held {
         return WRONG;
@@ -251,7 +242,7 @@ fn put_out(name: &[u8], numbers: &[u64], marks: &[u8], held: usize, next: u64) -
     let run: &mut [u8] = &mut space;
     match write(&numbers[..held], &marks[..held], next as u32, run) {
         Write::Length(length) => told(write_out(run, length as usize), WELL),
-        Write::Refused(refusal, _) => complain_refusal(name, refusal),
+        Write::Refused(refusal, _) => complain_refusal(name, b": ", &[0], refusal),
     }
 }
 

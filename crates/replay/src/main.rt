@@ -5,6 +5,7 @@ mod answers;
 mod case_bytes;
 mod divisions;
 mod input;
+mod levels;
 mod line;
 mod operations;
 mod plain_numbers;
@@ -38,6 +39,8 @@ fn replay_short(bytes: &[u8], row: u8, out: &mut [u8], at: usize) -> Case {
         7 => power_fits::replay(bytes, out, at),
         8 => plain_numbers::replay(bytes, out, at),
         9 => writes::replay(bytes, out, at),
+        10 => levels::replay_scan(bytes, out, at),
+        11 => levels::replay_turn(bytes, out, at),
         _ => Case::Malformed(Fault::UnknownRow),
     }
 }

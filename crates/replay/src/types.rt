@@ -1,9 +1,9 @@
 // What a case comes to.
 
-// The most elements that a list of a case has, but for row 9. The lists that cases are given to use have as many.
+// The most elements that a list of a case has, but for rows 9 to 11. The lists that cases are given to use have as many.
 pub const MOST_ELEMENTS: usize = 4096;
 
-// The most elements that a list of row 9 has.
+// The most elements that a list of rows 9 to 11 has.
 pub const MOST_VALUES: usize = 8192;
 
 // The most bytes that a run of blocks has.

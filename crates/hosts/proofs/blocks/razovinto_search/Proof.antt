@@ -4,7 +4,7 @@ use mathlib.Core.Path.{refl}
 use Rattle.search.specs.Search.{searchOf}
 use Rattle.search.specs.Answers.{searched}
 use Rattle.hosts.specs.Answers.{ofSearch}
-use Rattle.hosts.proofs.Entries.{short-gives, arm}
+use Rattle.entry.proofs.Entries.{short-gives, arm}
 use borrow.Author.Needs.{needs}
 use Rattle.hosts.proofs.blocks.razovinto_search.Statement.{statement}
 use Rattle.hosts.proofs.blocks.razovinto_search.Tie as tie

@@ -4,7 +4,7 @@ use mathlib.Core.Path.{refl}
 use Rattle.field.specs.Range.{scanOf}
 use Rattle.field.specs.Answers.{scanned}
 use Rattle.hosts.specs.Answers.{ofScan}
-use Rattle.hosts.proofs.Entries.{short-gives, arm}
+use Rattle.entry.proofs.Entries.{short-gives, arm}
 use borrow.Author.Needs.{needs}
 use Rattle.hosts.proofs.fields.razovinto_scan.Statement.{statement}
 use Rattle.hosts.proofs.fields.razovinto_scan.Tie as tie

@@ -6,7 +6,7 @@ use native.Mathlib.Omega.{arith}
 use lib.ListN.{length}
 use Rattle.recipe.specs.Run.{paper, runOf}
 use Rattle.hosts.specs.Answers.{ofRun}
-use Rattle.hosts.proofs.Entries.{short-gives, arm}
+use Rattle.entry.proofs.Entries.{short-gives, arm}
 use Rattle.hosts.proofs.Runs.{run-words, run-of-words}
 use borrow.Author.Needs.{needs}
 use Rattle.hosts.proofs.recipes.razovinto_run.Statement.{statement}

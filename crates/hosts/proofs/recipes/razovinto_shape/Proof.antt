@@ -4,7 +4,7 @@ use mathlib.Core.Path.{refl}
 use Rattle.shape.specs.Shape.{shapeOf}
 use Rattle.shape.specs.Answers.{verdict}
 use Rattle.hosts.specs.Answers.{ofShape}
-use Rattle.hosts.proofs.Entries.{short-gives, arm}
+use Rattle.entry.proofs.Entries.{short-gives, arm}
 use borrow.Author.Needs.{needs}
 use Rattle.hosts.proofs.recipes.razovinto_shape.Statement.{statement}
 use Rattle.hosts.proofs.recipes.razovinto_shape.Tie as tie

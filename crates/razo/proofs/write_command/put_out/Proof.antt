@@ -2,10 +2,16 @@
 -- Assumes nothing.
 use mathlib.Core.Path.{sym}
 use native.Mathlib.Omega.{arith}
-use borrow.Author.Needs.{needs}
 use lib.Seq.{length-take-le}
+use borrow.Author.Needs.{needs}
 use Rattle.razo.proofs.write_command.put_out.Statement.{statement}
 use Rattle.razo.proofs.write_command.put_out.Tie as tie
+
+slice-aggregate-complain-refusal : tie.Need-slice-aggregate-complain-refusal
+slice-aggregate-complain-refusal c = search needs
+
+slice-aggregate-complain-refusal-2 : tie.Need-slice-aggregate-complain-refusal-2
+slice-aggregate-complain-refusal-2 c = search needs
 
 complain-refusal-requires : tie.Need-complain-refusal-requires
 complain-refusal-requires c κs = search needs
@@ -49,6 +55,12 @@ told-requires c κs = search needs
 enum-known-refusal : tie.Need-enum-known-refusal
 enum-known-refusal c = search needs
 
+slice-aggregate-complain-refusal-3 : tie.Need-slice-aggregate-complain-refusal-3
+slice-aggregate-complain-refusal-3 c = search needs
+
+slice-aggregate-complain-refusal-4 : tie.Need-slice-aggregate-complain-refusal-4
+slice-aggregate-complain-refusal-4 c = search needs
+
 complain-refusal-requires-2 : tie.Need-complain-refusal-requires-2
 complain-refusal-requires-2 c κs = search needs
 
@@ -62,6 +74,8 @@ pub put-out-spec : {M : Type 1} → statement M
 put-out-spec =
     tie.close
     (tie.spec
+    slice-aggregate-complain-refusal
+    slice-aggregate-complain-refusal-2
     complain-refusal-requires
     returns
     returns-2
@@ -76,6 +90,8 @@ put-out-spec =
     write-out-requires
     told-requires
     enum-known-refusal
+    slice-aggregate-complain-refusal-3
+    slice-aggregate-complain-refusal-4
     complain-refusal-requires-2
     returns-4
     returns-5)

@@ -1,0 +1,2 @@
+// What a host calls on raw floats: `levels` has the entries.
+pub mod levels;
