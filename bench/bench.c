@@ -3,6 +3,7 @@
 #include "../include/razovinto.h"
 #include "plain.h"
 
+#include <math.h>
 #include <stdbool.h>
 #include <stdio.h>
 #include <stdlib.h>
@@ -44,6 +45,8 @@ static uint64_t field_numbers[FIELD];
 static uint8_t field_marks[FIELD];
 static uint8_t kinds[RECIPES][ITEMS];
 static uint64_t numbers[RECIPES][ITEMS];
+static float readings[FIELD];
+static uint8_t ground[FIELD];
 
 static void any_pairs(void)
 {
@@ -122,6 +125,81 @@ static void marked_field(void)
             field_numbers[i] = 0;
             field_marks[i] = 1;
         }
+}
+
+/* a level whose readings are as `reading` gives them */
+static void level_of(float (*reading)(void))
+{
+    for (int i = 0; i < FIELD; i++) {
+        readings[i] = reading();
+        ground[i] = any() % 2;
+    }
+}
+
+static float any_finite(void)
+{
+    float x;
+    do {
+        uint32_t bits = (uint32_t)any();
+        memcpy(&x, &bits, 4);
+    } while (!isfinite(x));
+    return x;
+}
+
+static void any_level(void)
+{
+    level_of(any_finite);
+}
+
+static float rain(void)
+{
+    if (any() % 8 != 0)
+        return any() % 2 ? -0.0f : 0.0f;
+    return (float)(1 + any() % 4000) / 16;
+}
+
+/* seven readings of eight are zeros, of both signs; the others are positive */
+static void rain_level(void)
+{
+    level_of(rain);
+}
+
+static float plateau(void)
+{
+    return any() % 8192 == 0 ? any_finite() : 273.15f;
+}
+
+/* all readings are equal but for about eight */
+static void plateau_level(void)
+{
+    level_of(plateau);
+}
+
+/* the last reading isn't usable */
+static void spoilt_level(void)
+{
+    any_level();
+    readings[FIELD - 1] = NAN;
+}
+
+static float any_whole(void)
+{
+    return (float)(any() % 16777216);
+}
+
+static void whole_level(void)
+{
+    level_of(any_whole);
+}
+
+static float small_whole(void)
+{
+    return (float)(any() % 1001);
+}
+
+static void small_level(void)
+{
+    level_of(small_whole);
 }
 
 /* every recipe is a first literal, then a literal and an operation in turn, as `literal` and `kind` give them for the i-th pair */
@@ -267,6 +345,23 @@ static void pass_search(function *f)
     sink += entry(run_of_blocks, sizeof run_of_blocks, RAZOVINTO_ANSWER(found)) + found.found;
 }
 
+static void pass_level_scan(function *f)
+{
+    level_scanner *entry = (level_scanner *)f;
+    struct razovinto_extent extent = {0, 0};
+    struct razovinto_at at;
+    sink += entry(readings, FIELD, ground, FIELD, RAZOVINTO_FLOATS(extent), RAZOVINTO_ANSWER(at));
+    sink += at.place + (extent.least < extent.greatest);
+}
+
+static void pass_level_to_field(function *f)
+{
+    turner *entry = (turner *)f;
+    struct razovinto_at at;
+    sink += entry(readings, FIELD, ground, FIELD, field_numbers, FIELD, field_marks, FIELD, RAZOVINTO_ANSWER(at));
+    sink += at.place + field_numbers[FIELD - 1] + field_marks[FIELD - 1];
+}
+
 /* ---- all sides must agree */
 
 static void fail(const char *what, int i)
@@ -354,6 +449,73 @@ static void same_search(const char *what, function *f, function *g)
         fail(what, 0);
 }
 
+enum { LEVELS = 9 * 13 };
+static float odd_readings[FIELD];
+static uint8_t odd_ground[FIELD];
+
+/* A part of the level, with as many readings as it gives back. After the first nine parts an odd reading is among them, and at
+   times any mark from 0 to 3 at its place or at another. */
+static size_t odd_level(int i)
+{
+    static const size_t counts[] = {0, 1, 2, 17, 4095, 4096, 4097, FIELD - 1, FIELD};
+    static const float odd[] = {NAN, -NAN, INFINITY, -INFINITY, -0.0f, 0.5f, -1, 1e-40f, 16777215, 16777216, 4294967296, -3e38f};
+    size_t count = counts[i % 9], start = any() % (FIELD - count + 1);
+    memcpy(odd_readings, readings + start, count * sizeof *readings);
+    memcpy(odd_ground, ground + start, count);
+    if (i >= 9 && count > 0) {
+        size_t place = any() % count;
+        odd_readings[place] = odd[i / 9 - 1];
+        if (i % 3 != 0)
+            odd_ground[i % 3 == 1 ? place : any() % count] = any() % 4;
+    }
+    return count;
+}
+
+/* with all in order; with a mark too few; and with no room. Every other level has all its signs turned, so that zeros are the
+   greatest readings too. */
+static void same_level_scan(const char *what, function *f, function *g)
+{
+    for (int i = 0; i < 3 * LEVELS; i++) {
+        size_t count = odd_level(i / 3), marks = count - (i % 3 == 1 && count > 0), room = 2 - (i % 3 == 2);
+        for (size_t k = 0; i / 3 % 2 && k < count; k++)
+            odd_readings[k] = -odd_readings[k];
+        float x[2] = {9, 9}, y[2] = {9, 9};
+        uint64_t a[1], b[1];
+        uint32_t r = ((level_scanner *)f)(odd_readings, count, odd_ground, marks, x, room, a, 1);
+        uint32_t s = ((level_scanner *)g)(odd_readings, count, odd_ground, marks, y, room, b, 1);
+        if (r != s || memcmp(a, b, sizeof a) != 0 || memcmp(x, y, sizeof x) != 0)
+            fail(what, i);
+    }
+}
+
+struct field {
+    uint64_t numbers[FIELD];
+    uint8_t marks[FIELD];
+};
+
+/* as a call with so much room writes it, and what is past the level stays */
+static uint32_t turn_to(function *f, struct field *field, size_t room, size_t room_for_marks, size_t count, size_t marks,
+                        uint64_t *answer)
+{
+    memset(field, 9, sizeof *field);
+    return ((turner *)f)(odd_readings, count, odd_ground, marks, field->numbers, room, field->marks, room_for_marks, answer, 1);
+}
+
+/* with all in order; with a mark too few; and with no room for the numbers, or for the marks */
+static void same_level_to_field(const char *what, function *f, function *g)
+{
+    static struct field one, other;
+    for (int i = 0; i < 4 * LEVELS; i++) {
+        size_t count = odd_level(i / 4), marks = count - (i % 4 == 1 && count > 0);
+        size_t room = count - (i % 4 == 2 && count > 0), room_for_marks = count - (i % 4 == 3 && count > 0);
+        uint64_t a[1], b[1];
+        uint32_t r = turn_to(f, &one, room, room_for_marks, count, marks, a);
+        uint32_t s = turn_to(g, &other, room, room_for_marks, count, marks, b);
+        if (r != s || memcmp(a, b, sizeof a) != 0 || memcmp(&one, &other, sizeof one) != 0)
+            fail(what, i);
+    }
+}
+
 /* ---- the table */
 
 struct subject {
@@ -390,6 +552,12 @@ static const struct subject subjects[] = {
     {"search, 55 values", full_blocks, pass_search, same_search, BESIDE_RUST(razovinto_search, rust_search), "block", BLOCKS, 0, 0.6},
     {"search, 1 value", short_blocks, pass_search, same_search, BESIDE_RUST(razovinto_search, rust_search), "block", BLOCKS, 0, 0.6},
     {"scan", any_field, pass_scan, same_scan, BESIDE_RUST(razovinto_scan, rust_scan), "value", FIELD, 0, 1.05},
+    {"level scan, any", any_level, pass_level_scan, same_level_scan, BESIDE_BOTH(level_scan), "value", FIELD, 0, 0.8},
+    {"level scan, rain", rain_level, pass_level_scan, same_level_scan, BESIDE_BOTH(level_scan), "value", FIELD, 0, 0.8},
+    {"level scan, plateau", plateau_level, pass_level_scan, same_level_scan, BESIDE_BOTH(level_scan), "value", FIELD, 0, 0.8},
+    {"level scan, NaN last", spoilt_level, pass_level_scan, same_level_scan, BESIDE_BOTH(level_scan), "value", FIELD, 0, 0},
+    {"level to field", whole_level, pass_level_to_field, same_level_to_field, BESIDE_BOTH(level_to_field), "value", FIELD, 0, 1.2},
+    {"level to field, low", small_level, pass_level_to_field, same_level_to_field, BESIDE_BOTH(level_to_field), "value", FIELD, 0, 1.2},
 };
 
 static double steps_of_recipes(void)

@@ -1,7 +1,8 @@
-/* The six operations, the recipe's machine and the block writer in plain C, for the benchmark alone. */
+/* The six operations, the recipe's machine, the block writer and both functions on levels in plain C, for the benchmark alone. */
 #include "../include/razovinto.h"
 #include "plain.h"
 
+#include <math.h>
 #include <stdbool.h>
 #include <string.h>
 
@@ -309,5 +310,67 @@ uint32_t c_write(uint32_t first, const uint64_t *numbers, size_t numbers_length,
         lay(first + (uint32_t)p, numbers + 55 * p, marks + 55 * p, left < 55 ? left : 55, run + 512 * p);
     }
     answer[1] = 512 * blocks;
+    return 0;
+}
+
+/* ---- levels */
+
+uint32_t c_level_scan(const float *readings, size_t reading_count, const uint8_t *ground, size_t ground_count, float *extent,
+                      size_t extent_count, uint64_t *answer, size_t length)
+{
+    if (length < 1)
+        return 19;
+    answer[0] = 0;
+    if (extent_count < 2)
+        return 19;
+    if (reading_count != ground_count)
+        return 6;
+    if (reading_count == 0)
+        return 14;
+    float least = readings[0], greatest = readings[0];
+    for (size_t i = 0; i < reading_count; i++) {
+        float x = readings[i];
+        if (ground[i] > 1 || !isfinite(x)) {
+            answer[0] = i;
+            return ground[i] > 1 ? 15 : 22;
+        }
+        if (x < least)
+            least = x;
+        if (x > greatest)
+            greatest = x;
+    }
+    extent[0] = least;
+    extent[1] = greatest;
+    return 0;
+}
+
+/* the range comes first: outside it C doesn't say what the integer would be */
+static bool whole(float x)
+{
+    return x >= 0 && x < 16777216 && (float)(uint32_t)x == x;
+}
+
+uint32_t c_level_to_field(const float *readings, size_t reading_count, const uint8_t *ground, size_t ground_count,
+                          uint64_t *numbers, size_t number_count, uint8_t *marks, size_t mark_count, uint64_t *answer,
+                          size_t length)
+{
+    if (length < 1)
+        return 19;
+    answer[0] = 0;
+    if (reading_count != ground_count)
+        return 6;
+    if (reading_count == 0)
+        return 14;
+    if (number_count < reading_count || mark_count < reading_count)
+        return 19;
+    for (size_t i = 0; i < reading_count; i++)
+        if (ground[i] > 1 || !whole(readings[i])) {
+            answer[0] = i;
+            return ground[i] > 1 ? 15 : !isfinite(readings[i]) ? 22 : 23;
+        }
+    for (size_t i = 0; i < reading_count; i++) {
+        numbers[i] = (uint32_t)readings[i];
+        marks[i] = 0;
+    }
     return 0;
 }

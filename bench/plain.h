@@ -21,11 +21,17 @@ typedef uint32_t reader(const uint8_t *block, size_t block_length, uint64_t *num
 typedef uint32_t writer(uint32_t first, const uint64_t *numbers, size_t numbers_length, const uint8_t *marks, size_t marks_length,
                         uint8_t *run, size_t run_length, uint64_t *answer, size_t length);
 typedef uint32_t searcher(const uint8_t *run, size_t run_length, uint64_t *answer, size_t length);
+typedef uint32_t level_scanner(const float *readings, size_t reading_count, const uint8_t *ground, size_t ground_count,
+                               float *extent, size_t extent_count, uint64_t *answer, size_t length);
+typedef uint32_t turner(const float *readings, size_t reading_count, const uint8_t *ground, size_t ground_count, uint64_t *numbers,
+                        size_t number_count, uint8_t *marks, size_t mark_count, uint64_t *answer, size_t length);
 
 runner c_run;
 scanner rust_scan;
 reader rust_read;
 writer c_write, rust_write;
 searcher rust_search;
+level_scanner c_level_scan, rust_level_scan;
+turner c_level_to_field, rust_level_to_field;
 
 #endif

@@ -1,4 +1,4 @@
-//! The six operations by Rust's checked ones, and scan, reader, writer and search by iterators, for the benchmark alone.
+//! The six operations by Rust's checked ones, and those on fields, blocks and levels by iterators, for the benchmark alone.
 use std::slice::{from_raw_parts, from_raw_parts_mut};
 
 // ---- the six operations
@@ -272,4 +272,119 @@ fn search(run: &[u8]) -> (u32, [u64; 4]) {
         }
     }
     (0, [0; 4])
+}
+
+// ---- levels
+
+#[no_mangle]
+pub unsafe extern "C" fn rust_level_scan(
+    readings: *const f32,
+    reading_count: usize,
+    ground: *const u8,
+    ground_count: usize,
+    extent: *mut f32,
+    extent_count: usize,
+    answer: *mut u64,
+    length: usize,
+) -> u32 {
+    if length < 1 {
+        return 19;
+    }
+    unsafe { *answer = 0 };
+    if extent_count < 2 {
+        return 19;
+    }
+    let readings = unsafe { from_raw_parts(readings, reading_count) };
+    let ground = unsafe { from_raw_parts(ground, ground_count) };
+    match level_scan(readings, ground) {
+        Ok(found) => {
+            unsafe { *(extent as *mut [f32; 2]) = found };
+            0
+        }
+        Err((code, place)) => {
+            unsafe { *answer = place as u64 };
+            code
+        }
+    }
+}
+
+/// The least and the greatest reading, or the refusal's number and place.
+fn level_scan(readings: &[f32], ground: &[u8]) -> Result<[f32; 2], (u32, usize)> {
+    if readings.len() != ground.len() {
+        return Err((6, 0));
+    }
+    if readings.is_empty() {
+        return Err((14, 0));
+    }
+    let (mut least, mut greatest) = (readings[0], readings[0]);
+    for (place, (&x, &mark)) in readings.iter().zip(ground).enumerate() {
+        if mark > 1 {
+            return Err((15, place));
+        }
+        if !x.is_finite() {
+            return Err((22, place));
+        }
+        if x < least {
+            least = x;
+        }
+        if x > greatest {
+            greatest = x;
+        }
+    }
+    Ok([least, greatest])
+}
+
+#[no_mangle]
+pub unsafe extern "C" fn rust_level_to_field(
+    readings: *const f32,
+    reading_count: usize,
+    ground: *const u8,
+    ground_count: usize,
+    numbers: *mut u64,
+    number_count: usize,
+    marks: *mut u8,
+    mark_count: usize,
+    answer: *mut u64,
+    length: usize,
+) -> u32 {
+    if length < 1 {
+        return 19;
+    }
+    let readings = unsafe { from_raw_parts(readings, reading_count) };
+    let ground = unsafe { from_raw_parts(ground, ground_count) };
+    let numbers = unsafe { from_raw_parts_mut(numbers, number_count) };
+    let marks = unsafe { from_raw_parts_mut(marks, mark_count) };
+    let (code, place) = level_to_field(readings, ground, numbers, marks);
+    unsafe { *answer = place as u64 };
+    code
+}
+
+/// The refusal's number or 0, and its place.
+fn level_to_field(readings: &[f32], ground: &[u8], numbers: &mut [u64], marks: &mut [u8]) -> (u32, usize) {
+    if readings.len() != ground.len() {
+        return (6, 0);
+    }
+    if readings.is_empty() {
+        return (14, 0);
+    }
+    if numbers.len() < readings.len() || marks.len() < readings.len() {
+        return (19, 0);
+    }
+    for (place, (&x, &mark)) in readings.iter().zip(ground).enumerate() {
+        if mark > 1 {
+            return (15, place);
+        }
+        if !x.is_finite() {
+            return (22, place);
+        }
+        let n = x as u32;
+        if n > 16_777_215 || n as f32 != x {
+            return (23, place);
+        }
+    }
+    for ((number, mark), &x) in numbers.iter_mut().zip(marks).zip(readings) {
+        *number = x as u32 as u64;
+        *mark = 0;
+    }
+    (0, 0)
 }
