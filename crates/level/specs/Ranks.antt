@@ -2,15 +2,15 @@
 -- Assumes nothing.
 use mathlib.Core.Path.{_≡_}
 use mathlib.Core.Logic.{_⊎_}
-use mathlib.Core.Bool.{Bool, true, false, cond}
+use mathlib.Core.Bool.{true, false, cond}
 use mathlib.Core.List.{List}
-use Prim.Native.Nat.{ℕ, _+_, _-_, _≤_, _<_}
+use Prim.Native.Nat.{ℕ, _-_, _≤_, _<_}
 use lib.Dec.{eqb}
 use lib.ListN.{length, getD}
 use lib.Ieee.{Float, nan, isNan}
 use Rattle.places.specs.Places.{firstFrom}
-use Rattle.reading.specs.Reading.{usable, usableAt}
-use Rattle.reading.specs.Order.{bitsOf, rankOf, rank}
+use Rattle.reading.specs.Reading.{usableAt}
+use Rattle.reading.specs.Order.{rankOf, rank}
 use Rattle.level.specs.Extent.{bitsAt, lowest, highest}
 
 -- every reading from place `from` to before place `to` is usable

@@ -1,12 +1,11 @@
 // From ranks back to readings.
 use crate::ranks::rank;
 ghost use mathlib.Core.Path.{_≡_};
-ghost use mathlib.Core.Bool.{true, false, cond};
-ghost use Prim.Native.Nat.{_≤_, _<_, _-_};
-ghost use lib.Dec.{eqb};
-ghost use lib.Ieee.{binary32, isNan, nan, ofBits, nanBits};
+ghost use mathlib.Core.Bool.{false};
+ghost use Prim.Native.Nat.{_≤_, _<_};
+ghost use lib.Ieee.{binary32, nan, ofBits, nanBits};
 ghost use lib.ListN.{length, getD};
-ghost use Rattle.reading.specs.Order.{rank, bitsOfRank};
+ghost use Rattle.reading.specs.Order.{bitsOfRank};
 ghost use Rattle.level.specs.Ranks.{placeOfRank, Settles, settled};
 
 const ZEROS: u32 = 0x8000_0000;

@@ -24,7 +24,7 @@ fn lesser(a: usize, b: usize) -> usize
     a
 }
 
-// The least and the greatest reading of a level. The lists' lengths come first, then the marks.
+// The least and the greatest reading of a level. The lists' lengths come first, then the earliest place with a fault.
 pub fn scan(level: &[f32], ground: &[u8]) -> LevelScan
     ensures { λ r. ⌜ scanned r ≡ scanOf (now (level .entry)) (now (ground .entry)) ⌝ }
 {

@@ -15,7 +15,7 @@ use lib.Ieee.{Float, inf, fin, binary32, up, down, below, level, lt, eq, fits, i
 use lib.Ieee.Bits.{ofBits-fits, nanBits-is}
 use lib.Ieee.Exact.{HasValue}
 use lib.Ieee.Fits.{down-pos}
-use Rattle.reading.specs.Order.{rankOf, rank}
+use Rattle.reading.specs.Order.{rankOf, rank, before}
 use Rattle.reading.proofs.Sizes.{sizeOf, larger-size, no-size}
 use Rattle.reading.proofs.Order.{finite, infinite, standing, placed, unsigned-rank, bits-of-made}
 
@@ -279,7 +279,7 @@ module _
             ]
 
     -- the machine's `<` is the order of sign and bits
-    pub before-is : lt x y ≡ ltb (rank x) (rank y)
+    pub before-is : lt x y ≡ before x y
     before-is =
         by-rank (lt x y) below ltb below-is (λ s t a b v w. lt-finite (2 ^ 149) (pow-pos 149) x y s t a b v w)
         (λ s t a h v e. ap (lt x) e ∙ lt-infinite a most h s t x (2 ^ 149) v)

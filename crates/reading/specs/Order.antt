@@ -4,7 +4,7 @@
 use mathlib.Core.Bool.{Bool, cond}
 use Prim.Native.Nat.{ℕ, _+_, _-_}
 use lib.Dec.{leb, ltb}
-use lib.Ieee.{Float, Format, binary32, toBits}
+use lib.Ieee.{Float, binary32, toBits}
 
 abbrev pub bitsOf : Float → ℕ
 bitsOf x = toBits binary32 x

@@ -18,7 +18,6 @@ usable (fin s m e) = true
 
 -- a number in the air, a number under the ground, or not usable
 unfoldable pub readingOf : Float → ℕ → Reading
-unfolding usable
 readingOf x mark = cond (usable x) (cond (eqb mark 0) (Air x) (Ground x)) Unusable
 
 -- ---- at each place of a level
