@@ -1,5 +1,5 @@
-/* Times the library beside plain C and Rust, in one process on the same inputs. Before anything is timed, all of them must give
-   the same answers on these inputs. */
+/* Times the library beside plain C and Rust, and beside an earlier library where one is linked in, in one process on the same
+   inputs. Before anything is timed, all of them must give the same answers on these inputs. */
 #include "../include/razovinto.h"
 #include "plain.h"
 
@@ -10,7 +10,8 @@
 #include <string.h>
 #include <time.h>
 
-enum { OURS, C, RUST, SIDES };
+/* the library, plain C and Rust, an earlier library; and for products alone a division, and other forms of halves */
+enum { OURS, C, RUST, BEFORE, DIVISION, JOINED, ADDED, WHOLE, CROSSED, COLUMNS, SIDES };
 enum { ROUNDS = 21, PAIRS = 2048, BLOCKS = 512, VALUES = 55 * BLOCKS, FIELD = 65536, RECIPES = 64, ITEMS = 255 };
 
 static uint64_t state = 20261115;
@@ -53,6 +54,46 @@ static void any_pairs(void)
     for (int i = 0; i < PAIRS; i++) {
         lefts[i] = any_magnitude();
         rights[i] = any_magnitude();
+    }
+}
+
+/* both below 2^32 */
+static void low_pairs(void)
+{
+    for (int i = 0; i < PAIRS; i++) {
+        lefts[i] = any() >> (32 + any() % 32);
+        rights[i] = any() >> (32 + any() % 32);
+    }
+}
+
+/* one from 2^32 on, at either side, and one from 1 on, with a product that fits or one that doesn't */
+static void wide_pairs(bool fits)
+{
+    for (int i = 0; i < PAIRS; i++) {
+        uint64_t wide = (any() | UINT64_C(1) << 63) >> (any() % 32), largest = UINT64_MAX / wide;
+        uint64_t narrow = fits ? 1 + any() % largest : largest + 1 + any() % (UINT32_MAX - largest + 1);
+        bool first = any() % 2;
+        lefts[i] = first ? wide : narrow;
+        rights[i] = first ? narrow : wide;
+    }
+}
+
+static void fitting_pairs(void)
+{
+    wide_pairs(true);
+}
+
+static void overflowed_pairs(void)
+{
+    wide_pairs(false);
+}
+
+/* both from 2^32 on */
+static void high_pairs(void)
+{
+    for (int i = 0; i < PAIRS; i++) {
+        lefts[i] = (any() | UINT64_C(1) << 63) >> (any() % 32);
+        rights[i] = (any() | UINT64_C(1) << 63) >> (any() % 32);
     }
 }
 
@@ -231,6 +272,22 @@ static uint8_t short_kind(int i)
 static void short_items(void)
 {
     recipes_of(7, short_literal, short_kind);
+}
+
+/* three products and then one by 0, with a sum after each: of the four two are of numbers below 2^32 */
+static uint64_t product_literal(int i)
+{
+    return i % 2 == 1 ? 1 + any() % 1000 : i % 8 == 6 ? 0 : 32768 + any() % 32768;
+}
+
+static uint8_t product_kind(int i)
+{
+    return i % 2 == 0 ? 2 : 1;
+}
+
+static void product_items(void)
+{
+    recipes_of(7, product_literal, product_kind);
 }
 
 /* to the power of 3 to 20; what is left of that by 5, 6 or 7; and 2 more */
@@ -529,29 +586,46 @@ struct subject {
     double wanted_of_c, wanted_of_rust; /* 0: nothing is asked */
 };
 
-#define BESIDE_BOTH(word) {(function *)razovinto_##word, (function *)c_##word, (function *)rust_##word}
-#define BESIDE_C(ours, theirs) {(function *)ours, (function *)theirs, NULL}
-#define BESIDE_RUST(ours, theirs) {(function *)ours, NULL, (function *)theirs}
+#define SIDE(name) (function *)name
+#define LIBRARIES(word) [OURS] = SIDE(razovinto_##word), [BEFORE] = SIDE(before_##word)
+#define BESIDE_C(word) {LIBRARIES(word), [C] = SIDE(c_##word)}
+#define BESIDE_RUST(word) {LIBRARIES(word), [RUST] = SIDE(rust_##word)}
+#define BESIDE_BOTH(word) {LIBRARIES(word), [C] = SIDE(c_##word), [RUST] = SIDE(rust_##word)}
+#define PRODUCT                                                                                                                    \
+    {LIBRARIES(product),                                                                                                           \
+     [C] = SIDE(c_product),                                                                                                        \
+     [RUST] = SIDE(rust_product),                                                                                                  \
+     [DIVISION] = SIDE(c_divided_product),                                                                                         \
+     [JOINED] = SIDE(halves_joined),                                                                                               \
+     [ADDED] = SIDE(halves_added),                                                                                                 \
+     [WHOLE] = SIDE(halves_whole),                                                                                                 \
+     [CROSSED] = SIDE(halves_crossed),                                                                                             \
+     [COLUMNS] = SIDE(halves_columns)}
 
 static const struct subject subjects[] = {
     {"sum", any_pairs, pass_operation, same_operation, BESIDE_BOTH(sum), "call", PAIRS, 1.25, 0},
-    {"product", any_pairs, pass_operation, same_operation, BESIDE_BOTH(product), "call", PAIRS, 0, 0},
+    {"product", any_pairs, pass_operation, same_operation, PRODUCT, "call", PAIRS, 0, 0},
+    {"product, below 2^32", low_pairs, pass_operation, same_operation, PRODUCT, "call", PAIRS, 0, 0},
+    {"product, one above", fitting_pairs, pass_operation, same_operation, PRODUCT, "call", PAIRS, 0, 0},
+    {"product, overflowed", overflowed_pairs, pass_operation, same_operation, PRODUCT, "call", PAIRS, 0, 0},
+    {"product, both above", high_pairs, pass_operation, same_operation, PRODUCT, "call", PAIRS, 0, 0},
     {"quotient", any_pairs, pass_operation, same_operation, BESIDE_BOTH(quotient), "call", PAIRS, 1.25, 0},
     {"remainder", any_pairs, pass_operation, same_operation, BESIDE_BOTH(remainder), "call", PAIRS, 0, 0},
     {"power", power_pairs, pass_operation, same_operation, BESIDE_BOTH(power), "call", PAIRS, 1.05, 1},
     {"logarithm", logarithm_pairs, pass_operation, same_operation, BESIDE_BOTH(logarithm), "call", PAIRS, 1.1, 1},
-    {"runner, five items", short_items, pass_short_run, same_run, BESIDE_C(razovinto_run, c_run), "call", RECIPES, 0, 0},
-    {"runner, short items", short_items, pass_run, same_run, BESIDE_C(razovinto_run, c_run), "step", 0, 1.2, 0},
-    {"runner, powers", power_items, pass_run, same_run, BESIDE_C(razovinto_run, c_run), "step", 0, 1.2, 0},
-    {"runner, logarithms", logarithm_items, pass_run, same_run, BESIDE_C(razovinto_run, c_run), "step", 0, 1.2, 0},
-    {"reader, 55 values", full_blocks, pass_read, same_read, BESIDE_RUST(razovinto_read, rust_read), "block", BLOCKS, 0, 0.5},
-    {"reader, 1 value", short_blocks, pass_read, same_read, BESIDE_RUST(razovinto_read, rust_read), "block", BLOCKS, 0, 0.5},
+    {"runner, five items", short_items, pass_short_run, same_run, BESIDE_C(run), "call", RECIPES, 0, 0},
+    {"runner, short items", short_items, pass_run, same_run, BESIDE_C(run), "step", 0, 1.2, 0},
+    {"runner, products", product_items, pass_run, same_run, BESIDE_C(run), "step", 0, 1.2, 0},
+    {"runner, powers", power_items, pass_run, same_run, BESIDE_C(run), "step", 0, 1.2, 0},
+    {"runner, logarithms", logarithm_items, pass_run, same_run, BESIDE_C(run), "step", 0, 1.2, 0},
+    {"reader, 55 values", full_blocks, pass_read, same_read, BESIDE_RUST(read), "block", BLOCKS, 0, 0.5},
+    {"reader, 1 value", short_blocks, pass_read, same_read, BESIDE_RUST(read), "block", BLOCKS, 0, 0.5},
     {"writer, 55 values", any_field, pass_write, same_write, BESIDE_BOTH(write), "block", BLOCKS, 0, 0.5},
     {"writer, 1 value", any_field, pass_write_one, same_write, BESIDE_BOTH(write), "block", BLOCKS, 0, 0.5},
     {"writer, marked", marked_field, pass_write, same_write, BESIDE_BOTH(write), "block", BLOCKS, 0, 0.5},
-    {"search, 55 values", full_blocks, pass_search, same_search, BESIDE_RUST(razovinto_search, rust_search), "block", BLOCKS, 0, 0.6},
-    {"search, 1 value", short_blocks, pass_search, same_search, BESIDE_RUST(razovinto_search, rust_search), "block", BLOCKS, 0, 0.6},
-    {"scan", any_field, pass_scan, same_scan, BESIDE_RUST(razovinto_scan, rust_scan), "value", FIELD, 0, 1.05},
+    {"search, 55 values", full_blocks, pass_search, same_search, BESIDE_RUST(search), "block", BLOCKS, 0, 0.6},
+    {"search, 1 value", short_blocks, pass_search, same_search, BESIDE_RUST(search), "block", BLOCKS, 0, 0.6},
+    {"scan", any_field, pass_scan, same_scan, BESIDE_RUST(scan), "value", FIELD, 0, 1.05},
     {"level scan, any", any_level, pass_level_scan, same_level_scan, BESIDE_BOTH(level_scan), "value", FIELD, 0, 0.8},
     {"level scan, rain", rain_level, pass_level_scan, same_level_scan, BESIDE_BOTH(level_scan), "value", FIELD, 0, 0.8},
     {"level scan, plateau", plateau_level, pass_level_scan, same_level_scan, BESIDE_BOTH(level_scan), "value", FIELD, 0, 0.8},
@@ -616,7 +690,7 @@ static void measure(const struct subject *s, double middle[SIDES])
 }
 
 /* a line for each subject, for bench/table.py: its name, its unit, nanoseconds a unit of each side (0 where there is none), and
-   the ratios that are wanted */
+   the ratios to C and Rust that are wanted */
 int main(void)
 {
     for (size_t i = 0; i < sizeof subjects / sizeof subjects[0]; i++) {

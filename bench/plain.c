@@ -34,6 +34,21 @@ uint32_t c_product(uint64_t left, uint64_t right, uint8_t *result, size_t length
     return put(result, n, overflowed);
 }
 
+/* a compiler that knows the test makes an overflow flag of it: here the quotient is to be there, as one that doesn't know it
+   leaves it */
+uint32_t c_divided_product(uint64_t left, uint64_t right, uint8_t *result, size_t length)
+{
+    bool overflowed = false;
+    if (length < 16)
+        return 19;
+    if (left != 0) {
+        uint64_t most = UINT64_MAX / left;
+        __asm__("" : "+r"(most));
+        overflowed = most < right;
+    }
+    return put(result, left * right, overflowed);
+}
+
 uint32_t c_quotient(uint64_t left, uint64_t right, uint8_t *result, size_t length)
 {
     if (length < 16)

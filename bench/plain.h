@@ -1,4 +1,5 @@
-/* The same functions without proofs: in C (plain.c) and in Rust (plain.rs, the names with rust_). */
+/* The same functions without proofs: in C (plain.c) and in Rust (plain.rs, the names with rust_); and those of an earlier
+   library (the names with before_), which are there only where bench/run is given its commit. */
 #ifndef PLAIN_H
 #define PLAIN_H
 
@@ -10,6 +11,8 @@ typedef uint32_t operation(uint64_t left, uint64_t right, uint8_t *result, size_
 
 operation c_sum, c_product, c_quotient, c_remainder, c_power, c_logarithm;
 operation rust_sum, rust_product, rust_quotient, rust_remainder, rust_power, rust_logarithm;
+operation c_divided_product; /* looks for overflow by a division */
+operation halves_joined, halves_added, halves_whole, halves_crossed, halves_columns; /* halves.c */
 
 /* as the library's entries: 0 or the refusal's number, and the answer's numbers in the lent list */
 typedef uint32_t runner(uint64_t width, const uint8_t *kinds, size_t kinds_length, const uint64_t *numbers, size_t numbers_length,
@@ -33,5 +36,15 @@ writer c_write, rust_write;
 searcher rust_search;
 level_scanner c_level_scan, rust_level_scan;
 turner c_level_to_field, rust_level_to_field;
+
+#define MAY_BE_MISSING __attribute__((weak))
+MAY_BE_MISSING operation before_sum, before_product, before_quotient, before_remainder, before_power, before_logarithm;
+MAY_BE_MISSING runner before_run;
+MAY_BE_MISSING scanner before_scan;
+MAY_BE_MISSING reader before_read;
+MAY_BE_MISSING writer before_write;
+MAY_BE_MISSING searcher before_search;
+MAY_BE_MISSING level_scanner before_level_scan;
+MAY_BE_MISSING turner before_level_to_field;
 
 #endif

@@ -1,5 +1,6 @@
 #!/usr/bin/env python3
-"""Prints the table of ratios from the lines of bench.c, run once for each layout.
+"""Prints tables of the lines of bench.c, run once for each layout: the library beside plain C and Rust; beside an earlier
+library, where one was timed; and the forms of a product from halves beside each other.
 
     table.py PROGRAM..
 
@@ -11,37 +12,82 @@ import subprocess
 import sys
 
 
+SIDES = ("library", "C", "Rust", "before", "division", "joined", "added", "whole", "crossed", "columns")
+
+
 def measured(program):
-    """The lines of one run: name, unit, nanoseconds of the library, C and Rust, and the ratios wanted."""
+    """The lines of one run: name, unit, nanoseconds of each side, and the ratios to C and Rust that are wanted."""
     lines = subprocess.run([program], check=True, capture_output=True, text=True).stdout.splitlines()
     return [line.split("|") for line in lines]
 
 
-def ratio(ours, other, wanted):
-    """The column of a ratio, and whether what is wanted is met."""
-    if other == 0:
-        return f"{'-':>6}{'':9}", True
-    value = round(ours / other, 2)
-    if wanted == 0:
-        return f"{value:6.2f}{'':9}", True
-    return f"{value:6.2f} ({wanted:4.2f}) ", value <= wanted
+class Subject:
+    """A subject's lines of all runs: the middle time of each side, 0 where it wasn't timed."""
+
+    def __init__(self, rows):
+        self.name, self.unit = rows[0][:2]
+        times = zip(*((float(word) for word in row[2 : 2 + len(SIDES)]) for row in rows))
+        self.times = dict(zip(SIDES, map(statistics.median, times)))
+        self.wanted = dict(zip(("C", "Rust"), (float(word) for word in rows[0][2 + len(SIDES) :])))
+
+    def line(self, sides):
+        times = " ".join(f"{self.times[side]:9.2f}" if self.times[side] else f"{'-':>9}" for side in sides)
+        return f"{self.name:20} {self.unit:6} {times}"
+
+    def ratio(self, side):
+        """The library's time divided by this side's, or None."""
+        return round(self.times["library"] / self.times[side], 2) if self.times[side] else None
+
+    def missed(self, side):
+        return bool(self.wanted[side]) and self.ratio(side) > self.wanted[side]
+
+    def column(self, side):
+        """The column of a ratio, with what is wanted where anything is."""
+        ratio, wanted = self.ratio(side), self.wanted.get(side)
+        if ratio is None:
+            return f"{'-':>6}{'':9}"
+        return f"{ratio:6.2f} ({wanted:4.2f}) " if wanted else f"{ratio:6.2f}{'':9}"
+
+
+def head(sides, rest=""):
+    print(f"{'':20} {'ns per':6} {' '.join(f'{side:>9}' for side in sides)}{rest}")
+
+
+def beside_plain(subjects):
+    sides = ("library", "C", "Rust")
+    head(sides, "   of C (wanted)   of Rust (wanted)")
+    for subject in subjects:
+        missed = " missed" if subject.missed("C") or subject.missed("Rust") else ""
+        print(f"{subject.line(sides)}  {subject.column('C')} {subject.column('Rust')}{missed}".rstrip())
+
+
+def beside_before(subjects):
+    sides = ("library", "before", "division")
+    print()
+    head(sides, "   of before       of division")
+    for subject in subjects:
+        if subject.times["before"]:
+            print(f"{subject.line(sides)}  {subject.column('before')} {subject.column('division')}".rstrip())
+
+
+def forms(subjects):
+    sides = SIDES[SIDES.index("joined") :]
+    print()
+    head(sides)
+    for subject in subjects:
+        if subject.times["joined"]:
+            print(subject.line(sides))
 
 
 def main():
     runs = [measured(program) for program in sys.argv[1:]]
-    print(f"{'':20} {'ns per':6} {'library':>9} {'C':>9} {'Rust':>9}   of C (wanted)   of Rust (wanted)")
-    missed = 0
-    for rows in zip(*runs):
-        name, unit = rows[0][:2]
-        ours, c, rust = (statistics.median(float(row[i]) for row in rows) for i in (2, 3, 4))
-        wanted_c, wanted_rust = (float(word) for word in rows[0][5:7])
-        times = " ".join(f"{time:9.2f}" if time else f"{'-':>9}" for time in (ours, c, rust))
-        of_c, met_c = ratio(ours, c, wanted_c)
-        of_rust, met_rust = ratio(ours, rust, wanted_rust)
-        met = met_c and met_rust
-        missed += not met
-        print(f"{name:20} {unit:6} {times}  {of_c} {of_rust}{'' if met else ' missed'}".rstrip())
+    subjects = [Subject(rows) for rows in zip(*runs)]
+    beside_plain(subjects)
+    missed = sum(subject.missed("C") or subject.missed("Rust") for subject in subjects)
     print(f"{len(runs)} layouts, {missed} missed")
+    if any(subject.times["before"] for subject in subjects):
+        beside_before(subjects)
+    forms(subjects)
 
 
 if __name__ == "__main__":
