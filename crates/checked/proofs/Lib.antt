@@ -1,6 +1,8 @@
 -- The laws on checked values, each file standing on those above it. `Promises` states what the functions promise.
 pub mod Arms
 pub mod BothFit
+pub mod Below
+pub mod Halves
 pub mod Limit
 pub mod Squares
 pub mod Powers

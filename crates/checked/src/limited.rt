@@ -5,12 +5,15 @@ use crate::types::Answer64;
 use crate::types::Both;
 use crate::types::Checked64;
 ghost use mathlib.Core.Path.{_≡_};
-ghost use Prim.Native.Nat.{ℕ, _+_, _*_, _%_, _^_, _≤_, _<_};
+ghost use Prim.Native.Nat.{ℕ, _+_, _*_, _%_, _^_, _≤_, _<_, max, min};
 ghost use Rattle.whole.specs.logarithm.{log-of};
 ghost use Rattle.checked.specs.declared.types.Checked64.the-variants.{Fits, Overflowed};
 ghost use Rattle.checked.specs.Value.{checkedOf, sumOf, productOf, bothOf};
 ghost use Rattle.checked.specs.Pair.{pair, pairOf};
 ghost use Rattle.checked.specs.Paper.{paper, refused, quotientOf, remainderOf, powerOf, logarithmOf, dividedBy, leftBy, logOf};
+
+// 2^32: two numbers below it have a product of 64 bits, and it cuts a number of 64 bits into two halves.
+const TWO_TO_32: u64 = 4294967296;
 
 // ---- on numbers
 
@@ -37,17 +40,52 @@ pub fn checked_add(limit: u64, a: u64, b: u64) -> Checked64
     Checked64::Overflowed
 }
 
-// The product of two numbers. b is compared with the largest factor that a has within 64 bits, so that nothing wraps; a compiler
-// makes a multiplication of this test, and no division.
+// The product of two numbers. Where both are below 2^32, as they mostly are, one test says so, and nothing can wrap.
 pub fn checked_mul(limit: u64, a: u64, b: u64) -> Checked64
     ensures { λ r. ⌜ r ≡ checkedOf limit (a * b) ⌝ }
 {
-    if a != 0 {
-        if 18446744073709551615 / a < b {
-            return Checked64::Overflowed;
+    if (a | b) < TWO_TO_32 {
+        return checked_of(limit, a * b);
+    }
+    mul_halves(limit, larger(a, b), smaller(a, b))
+}
+
+// The product of two numbers from their halves of 32 bits. Where the lesser number has a high half, so has the greater,
+// and these two alone bring the product beyond 64 bits. Where it has none, the middle part tells: the greater's high half
+// by the lesser number, with what the low halves carry. It can't wrap, and where it is below 2^32 the parts joined are
+// the product.
+fn mul_halves(limit: u64, greater: u64, lesser: u64) -> Checked64
+    requires { ⌜ lesser ≤ greater ⌝ }
+    ensures { λ r. ⌜ r ≡ checkedOf limit (greater * lesser) ⌝ }
+{
+    let low = greater % TWO_TO_32 * (lesser % TWO_TO_32);
+    let middle = greater / TWO_TO_32 * (lesser % TWO_TO_32) + low / TWO_TO_32;
+    if (lesser | middle) < TWO_TO_32 {
+        let product = middle * TWO_TO_32 + low % TWO_TO_32;
+        if product <= limit {
+            return Checked64::Fits(product);
         }
     }
-    checked_of(limit, a * b)
+    Checked64::Overflowed
+}
+
+// The larger of two numbers; of this and of the smaller a compiler makes no branch.
+fn larger(a: u64, b: u64) -> u64
+    ensures { λ r. ⌜ r ≡ max a b ⌝ }
+{
+    if a < b {
+        return b;
+    }
+    a
+}
+
+fn smaller(a: u64, b: u64) -> u64
+    ensures { λ r. ⌜ r ≡ min a b ⌝ }
+{
+    if a < b {
+        return a;
+    }
+    b
 }
 
 // The quotient of two numbers.
@@ -101,7 +139,7 @@ pub fn checked_pow(limit: u64, base: u64, exponent: u64) -> Checked64
 fn checked_square(limit: u64, n: u64) -> Checked64
     ensures { λ r. ⌜ r ≡ checkedOf limit (n * n) ⌝ }
 {
-    if n < 4294967296 {
+    if n < TWO_TO_32 {
         return checked_of(limit, n * n);
     }
     Checked64::Overflowed

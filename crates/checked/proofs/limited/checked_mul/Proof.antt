@@ -1,38 +1,64 @@
--- `limited::checked_mul` meets its contract: a * b is within 64 bits exactly when a is 0 or b is at most (2^64 - 1) / a.
+-- `limited::checked_mul` meets its contract: two numbers below 2^32 have a product of 64 bits, and any others are
+-- multiplied by halves, the greater by the lesser.
 -- Assumes nothing.
-use mathlib.Core.Path.{ap}
-use mathlib.Core.Logic.{⊎-elim}
-use Prim.Native.Nat.{_*_, _≤_}
-use native.Mathlib.Nat.{zero-mul}
+use mathlib.Core.Path.{_≡_, ap, ap₂, _∙_}
+use Prim.Native.Nat.{ℕ, _*_, _≤_, max, min}
+use native.Mathlib.Nat.{mul-comm, mul-le-mul}
+use native.Mathlib.Decide.{decLe}
 use native.Mathlib.Omega.{arith}
 use borrow.Author.Needs.{needs}
-use Rattle.checked.proofs.Limit.{over, product-within, product-beyond}
+use Rattle.checked.specs.Value.{checkedOf}
+use Rattle.checked.proofs.Below.{both-below-exactly}
 use Rattle.checked.proofs.limited.checked_mul.Statement.{statement}
 use Rattle.checked.proofs.limited.checked_mul.Tie as tie
 
-div-if2 : tie.Need-div-if2
-div-if2 c = search needs
-
-returns : tie.Need-returns
-returns c =
-    let s = c .before .before in
-    over (s .args .limit) (s .args .a * s .args .b) (omega (arith, product-beyond 18446744073709551615 (s .args .a) (s .args .b) (c .before .if1 .taken) (c .if2 .taken), s .fits .limit))
+greater-by-lesser : (a b : ℕ) → max a b * min a b ≡ a * b
+greater-by-lesser a b =
+    elim (decLe a b) [
+      | yes h ↦
+          let g : max a b ≡ b = omega arith in
+          let l : min a b ≡ a = omega arith in ap₂ _*_ g l ∙ mul-comm b a
+      | no h ↦
+          let g : max a b ≡ a = omega arith in
+          let l : min a b ≡ b = omega arith in ap₂ _*_ g l
+    ]
 
 mul-checked-of : tie.Need-mul-checked-of
 mul-checked-of c =
     let g = c .before .args in
-    let within : g .a * g .b ≤ 18446744073709551615 =
-    ⊎-elim
-    (λ w. product-within 18446744073709551615 (g .a) (g .b) (w .0 .taken) (w .1 .left))
-    (λ w. omega (arith, ap (λ n. n * g .b) (w .left), zero-mul (g .b)))
-    (c .if1 .came)
-    in omega arith
+    let low = both-below-exactly 32 (g .a) (g .b) .0 (c .if1 .taken) in
+    let a : g .a ≤ 4294967295 = omega arith in
+    let b : g .b ≤ 4294967295 = omega arith in omega (arith, mul-le-mul a b)
 
 checked-of-requires : tie.Need-checked-of-requires
 checked-of-requires c κs = search needs
 
+returns : tie.Need-returns
+returns c = search needs
+
+larger-requires : tie.Need-larger-requires
+larger-requires c κs = search needs
+
+smaller-requires : tie.Need-smaller-requires
+smaller-requires c κs = search needs
+
+mul-halves-requires : tie.Need-mul-halves-requires
+mul-halves-requires c κs = search needs
+
 returns-2 : tie.Need-returns-2
-returns-2 c = search needs
+returns-2 c =
+    let g = c .before .before .before .before .args in
+    let factors = ap₂ _*_ (c .before .before .larger .ensures) (c .before .smaller .ensures) in
+    c .mul-halves .ensures ∙ ap (checkedOf (g .limit)) (factors ∙ greater-by-lesser (g .a) (g .b))
 
 pub checked-mul-spec : {M : Type 1} → statement M
-checked-mul-spec = tie.close (tie.spec div-if2 returns mul-checked-of checked-of-requires returns-2)
+checked-mul-spec =
+    tie.close
+    (tie.spec
+    mul-checked-of
+    checked-of-requires
+    returns
+    larger-requires
+    smaller-requires
+    mul-halves-requires
+    returns-2)
