@@ -123,6 +123,18 @@ def near_limit(dice, width, kind):
     return Operation(width, kind, left, min(max(0, right + dice.between(-1, 1)), most))
 
 
+def product_edges():
+    """Products of 64 bits, in both orders: some beside 2^64, where what the low halves carry decides or the high halves
+    do, and some far above it. The two cross products of the last pair come to 2^64 together."""
+    factors = (2, 3, 5, 2**16 - 1, 2**16 + 1, 2**31, 2**32 - 2, 2**32 - 1, 2**32, 2**32 + 1, 2**33 - 1)
+    beside = [(left, MOST // left + step) for left in factors for step in (-1, 0, 1)]
+    above = [(2**63, 2**63), (2**63 + 1, 2**33), (2**48, 2**48 + 2**16), (MOST - 2**32, 2**32), (MOST // 3, MOST // 5)]
+    crossed = (2**64 - 2**32 + 599479, 14329 * 2**32 + 2**32 - 1)
+    for left, right in (*beside, *above, crossed):
+        yield Operation(64, PRODUCT, left, right)
+        yield Operation(64, PRODUCT, right, left)
+
+
 def every_operation_at_8():
     values = [*range(256), OVERFLOWED]
     return (Operation(8, kind, left, right) for kind in range(SUM, LOGARITHM + 1) for left in values for right in values)

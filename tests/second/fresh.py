@@ -32,6 +32,7 @@ def boundaries(dice):
     yield from chain(cases.longest_runs(), cases.deep_hands(), cases.long_recipes(), cases.known_widths())
     yield from cases.shape_faults()
     yield from chain(cases.operation_edges(), cases.every_signed_edge(), cases.fit_edges(), cases.plain_edges())
+    yield from cases.product_edges()
     yield from chain(cases.range_edges(), cases.place_faults(), cases.field_lengths(), cases.longest_fields())
     yield from chain(cases.block_tables(), cases.block_damages(dice), cases.block_counts(), cases.block_lengths())
     yield from chain(cases.block_rooms(), cases.found_places(dice), cases.bad_before_or_after(dice))

@@ -21,6 +21,7 @@ RANDOM = 6000
 def pairs_of(dice, kind):
     """Pairs of edges, and random ones."""
     yield from (rows.Operation(64, kind, left, right) for left in cases.edges(64) for right in cases.edges(64))
+    yield from (case for case in cases.product_edges() if case.kind == kind)
     for _ in range(RANDOM):
         yield cases.some_operation_of(dice, 64, kind, cases.some_number)
 
