@@ -26,13 +26,13 @@ module razovinto
         razovinto_refusal_text
 
     character(len=*), parameter, public :: &
-        razovinto_version = '4.2.0'
+        razovinto_version = '4.2.1'
     integer, parameter, public :: &
         razovinto_version_major = 4
     integer, parameter, public :: &
         razovinto_version_minor = 2
     integer, parameter, public :: &
-        razovinto_version_patch = 0
+        razovinto_version_patch = 1
 
     ! The refusals. Not every one has a function here that gives it yet.
     integer(c_int32_t), parameter, public :: razovinto_divisor_zero = 1

@@ -13,10 +13,10 @@
 #include <stddef.h>
 #include <stdint.h>
 
-#define RAZOVINTO_VERSION "4.2.0"
+#define RAZOVINTO_VERSION "4.2.1"
 #define RAZOVINTO_VERSION_MAJOR 4
 #define RAZOVINTO_VERSION_MINOR 2
-#define RAZOVINTO_VERSION_PATCH 0
+#define RAZOVINTO_VERSION_PATCH 1
 
 /* The refusals. Not every one has an entry here that gives it yet. */
 #define RAZOVINTO_DIVISOR_ZERO 1
