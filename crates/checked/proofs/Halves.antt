@@ -1,6 +1,5 @@
--- A product from halves, over any base B. A number's halves are its quotient and its remainder by B, and a product has
--- three parts: the high halves' product; the middle part, which is the cross products with what the low halves' product
--- carries; and what that one leaves. It stays below B * B exactly when the first is 0 and the second is below B.
+-- A product from halves, over any base B: it is the high halves' product, the middle part and what the low halves'
+-- product leaves, joined; and it stays below B * B exactly when the first is 0 and the middle part is below B.
 -- Assumes nothing.
 use mathlib.Core.Path.{_≡_, ap, sym, _∙_}
 use mathlib.Core.Logic.{_↔_}
@@ -9,20 +8,7 @@ use native.Mathlib.Nat.{div-add-mod, mod-lt, add-mul-div-right, div-lt-iff-lt-mu
 use native.Mathlib.Nat.{mul-zero, mul-le-mul, mul-le-mul-left, mul-le-mul-right}
 use native.Mathlib.Decide.{decLe}
 use native.Mathlib.Omega.{arith}
-
--- ---- the parts
-
-abbrev pub highs : (B a b : ℕ) → ℕ
-highs B a b = a / B * (b / B)
-
-abbrev pub crosses : (B a b : ℕ) → ℕ
-crosses B a b = a / B * (b % B) + a % B * (b / B)
-
-abbrev pub lows : (B a b : ℕ) → ℕ
-lows B a b = a % B * (b % B)
-
-abbrev pub middle : (B a b : ℕ) → ℕ
-middle B a b = crosses B a b + lows B a b / B
+use Rattle.checked.specs.Halves.{highs, crosses, lows, middle}
 
 -- ---- the product from its parts
 

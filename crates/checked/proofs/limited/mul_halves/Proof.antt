@@ -5,8 +5,9 @@ use Prim.Native.Nat.{ℕ, _+_, _*_, _%_, _≤_, _<_}
 use native.Mathlib.Decide.{decLe}
 use native.Mathlib.Omega.{arith}
 use Rattle.checked.specs.declared.types.Checked64.the-variants.{Fits}
+use Rattle.checked.specs.Halves.{lows}
 use Rattle.checked.proofs.Below.{both-below-exactly}
-use Rattle.checked.proofs.Halves.{lows, middleBy, joined, below-square-by-lesser, lows-below, middle-below}
+use Rattle.checked.proofs.Halves.{middleBy, joined, below-square-by-lesser, lows-below, middle-below}
 use Rattle.checked.proofs.Limit.{fits, over}
 use Rattle.checked.proofs.limited.mul_halves.Statement.{statement}
 use Rattle.checked.proofs.limited.mul_halves.Tie as tie
