@@ -26,13 +26,13 @@ module razovinto
         razovinto_refusal_text
 
     character(len=*), parameter, public :: &
-        razovinto_version = '4.2.1'
+        razovinto_version = '4.3.0'
     integer, parameter, public :: &
         razovinto_version_major = 4
     integer, parameter, public :: &
-        razovinto_version_minor = 2
+        razovinto_version_minor = 3
     integer, parameter, public :: &
-        razovinto_version_patch = 1
+        razovinto_version_patch = 0
 
     ! The refusals. Not every one has a function here that gives it yet.
     integer(c_int32_t), parameter, public :: razovinto_divisor_zero = 1
@@ -124,8 +124,8 @@ module razovinto
         integer(c_int64_t) :: on_hand(razovinto_places)
     end type
 
-    ! A field's range: the refusal's place, which is the element's index from 0 for 15 and 3; and how many bits pack a
-    ! number of the range.
+    ! A field's range: the refusal's place, which is the element's index from 0 for 15 and 3; and the packing width, the
+    ! smallest w with greatest - least < 2**w, which is 0 for one number everywhere.
     type, bind(c), public :: razovinto_scan_answer
         integer(c_int64_t) :: place, least, greatest, width
     end type

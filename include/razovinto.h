@@ -13,10 +13,10 @@
 #include <stddef.h>
 #include <stdint.h>
 
-#define RAZOVINTO_VERSION "4.2.1"
+#define RAZOVINTO_VERSION "4.3.0"
 #define RAZOVINTO_VERSION_MAJOR 4
-#define RAZOVINTO_VERSION_MINOR 2
-#define RAZOVINTO_VERSION_PATCH 1
+#define RAZOVINTO_VERSION_MINOR 3
+#define RAZOVINTO_VERSION_PATCH 0
 
 /* The refusals. Not every one has an entry here that gives it yet. */
 #define RAZOVINTO_DIVISOR_ZERO 1
@@ -219,7 +219,7 @@ struct razovinto_range {
     uint64_t place; /* of the refusal: the element's index for 15 and 3, 0 otherwise */
     uint64_t least;
     uint64_t greatest;
-    uint64_t width; /* how many bits pack a number of the range */
+    uint64_t width; /* the packing width: the smallest w with greatest - least < 2^w; 0 for one number everywhere */
 };
 
 /* The range of a field that has no overflowed place. Refused with RAZOVINTO_LENGTHS_DIFFER, RAZOVINTO_FIELD_EMPTY; then

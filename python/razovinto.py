@@ -38,7 +38,7 @@ import sys
 from array import array
 from typing import Any, Iterable, List, NamedTuple, Optional, Sequence, Tuple, Union
 
-__version__ = "4.2.1"
+__version__ = "4.3.0"
 
 __all__ = [
     "BLOCK_SIZE", "BLOCK_VALUES", "Block", "Extent", "Field", "Found", "KINDS", "OVERFLOWED", "Overflowed", "PLACES",
@@ -213,7 +213,10 @@ class Run(NamedTuple):
 
 
 class Range(NamedTuple):
-    """A field's least and greatest number, and how many bits pack a number between them."""
+    """A field's least and greatest number, and its packing width.
+
+    The width is the smallest w with greatest - least < 2**w: 0 for one number everywhere.
+    """
 
     least: int
     greatest: int

@@ -132,16 +132,18 @@ static void expect_scan(const char *what, const uint64_t *numbers, size_t number
 
 static void check_fields(void)
 {
-    static const uint64_t numbers[] = {MOST, 9, 0, 256, 1, 0};
+    static const uint64_t numbers[] = {MOST, 9, 0, 256, 1, 0}, constant[] = {7, 7, 7, 7, 7};
     static const uint8_t marks[] = {0, 0, 0, 0, 0, 0}, last[] = {0, 0, 0, 0, 0, 1};
     static const uint8_t bad_first[] = {2, 0, 1, 0, 0, 1}, bad_later[] = {0, 0, 1, 255, 0, 1};
     static const uint8_t with_number[] = {0, 1, 0, 0, 0, 2};
     uint64_t answer[4];
-    expect_scan("one number", numbers + 1, 1, marks, 1, RANGE(9, 9, 1));
+    expect_scan("one number", numbers + 1, 1, marks, 1, RANGE(9, 9, 0));
+    expect_scan("one number everywhere", constant, 5, marks, 5, RANGE(7, 7, 0));
+    expect_scan("1 bit", numbers + 4, 2, marks, 2, RANGE(0, 1, 1));
     expect_scan("from 0 to the largest", numbers, 6, marks, 6, RANGE(0, MOST, 64));
     expect_scan("9 bits", numbers + 2, 3, marks, 3, RANGE(0, 256, 9));
     expect_scan("8 bits", numbers + 3, 2, marks, 2, RANGE(1, 256, 8));
-    expect_scan("the largest alone", numbers, 1, marks, 1, RANGE(MOST, MOST, 1));
+    expect_scan("the largest alone", numbers, 1, marks, 1, RANGE(MOST, MOST, 0));
     expect_scan("no numbers", numbers, 0, marks, 0, REFUSED(RAZOVINTO_FIELD_EMPTY, 0));
     expect_scan("a mark too few", numbers, 6, marks, 5, REFUSED(RAZOVINTO_LENGTHS_DIFFER, 0));
     expect_scan("a mark too many", numbers, 5, marks, 6, REFUSED(RAZOVINTO_LENGTHS_DIFFER, 0));

@@ -172,6 +172,7 @@ contains
         integer(c_int8_t), parameter :: marks(4) = 0
         call scan(numbers, marks, 0, [0_c_int64_t, 0_c_int64_t, most, 64_c_int64_t])
         call scan(numbers(3:), marks(3:), 0, [0_c_int64_t, 0_c_int64_t, 256_c_int64_t, 9_c_int64_t])
+        call scan([most, most, most], marks(:3), 0, [0_c_int64_t, most, most, 0_c_int64_t])
         call scan(numbers(:0), marks(:0), razovinto_field_empty, [0_c_int64_t, 0_c_int64_t, 0_c_int64_t, 0_c_int64_t])
         call scan(numbers, marks(:3), razovinto_lengths_differ, [0_c_int64_t, 0_c_int64_t, 0_c_int64_t, 0_c_int64_t])
         call scan(numbers, [0_c_int8_t, 0_c_int8_t, 1_c_int8_t, 2_c_int8_t], razovinto_overflowed_operand, &

@@ -281,7 +281,8 @@ class Recipes(Case):
 
 class Fields(Case):
     def test_ranges(self):
-        self.assertEqual(razovinto.scan([7], [0]), Range(7, 7, 1))
+        self.assertEqual(razovinto.scan([7], [0]), Range(7, 7, 0))
+        self.assertEqual(razovinto.scan([7] * 1000), Range(7, 7, 0))
         self.assertEqual(razovinto.scan([0, MOST], b"\0\0"), Range(0, MOST, 64))
         self.assertEqual(razovinto.scan(range(3, 9)), Range(3, 8, 3))
         self.assertEqual(razovinto.scan(array("Q", [5, 6])), Range(5, 6, 1))

@@ -415,6 +415,14 @@ def range_edges():
                 yield Scan((low + wide, low + wide // 2, low), bytes(3))
 
 
+def constant_fields():
+    """One number everywhere, and the same but for the last, which is one more or less."""
+    for number in (0, 1, 2**32, 2**63, MOST):
+        for n in (1, 2, 55, 256):
+            yield Scan((number,) * n, bytes(n))
+            yield Scan((number,) * n + (number ^ 1,), bytes(n + 1))
+
+
 # What can be wrong at a place of a field: its number and mark.
 PLACE_FAULTS = ((0, 1), (0, 2), (0, 255), (1, 1), (MOST, 1), (5, 2))
 

@@ -3,7 +3,8 @@
 This is the second program's own reading of the rules; it shares nothing with the crates. What is cheap to say in two
 ways is said in two ways here, and the two are compared on every case: a recipe's shape by a walk and by the list of all
 its faults, a run by single steps and by what it comes to, a block's layout by looking and by writing the block anew, a
-field's blocks one by one and value by value, a level by its readings' bits and by the exact numbers that they stand for.
+packing width by its rule and by counting, a field's blocks one by one and value by value, a level by its readings' bits
+and by the exact numbers that they stand for.
 Blocks that are written are also read back, searched, and written again.
 
 A checked value is a number, or OVERFLOWED. A refusal is its number; 0 is none.
@@ -373,7 +374,11 @@ def place_fault(number, mark):
 
 
 def packing_width(least_number, greatest):
-    return logarithm(2, greatest - least_number) + 1
+    """0 where the range is 0, and log(2, range) + 1 otherwise; counted too, as the smallest w with range < 2^w."""
+    wide = greatest - least_number
+    width = logarithm(2, wide) + 1 if wide else 0
+    assert width == next(w for w in range(65) if wide < 2**w)
+    return width
 
 
 def scan(numbers, marks):

@@ -26,7 +26,7 @@ def tables():
     for a, b in ((-7, 2), (7, -2), (-128, -1)):
         yield rows.Signed(8, 0, a, b)
         yield rows.Signed(8, 1, a, b)
-    for wide in (1, 255, 256):
+    for wide in (0, 1, 255, 256):
         yield rows.Scan((0, wide), bytes(2))
     yield from cases.block_tables()
 
@@ -53,6 +53,7 @@ def boundaries(dice):
     yield from cases.known_widths()
     yield from every(3, cases.shape_faults())
     yield from every(5, cases.range_edges())
+    yield from every(3, cases.constant_fields())
     yield from every(3, cases.place_faults())
     yield from cases.field_lengths()
     yield from every(2, cases.longest_fields())

@@ -42,7 +42,7 @@ class Tables(unittest.TestCase):
             self.assertEqual(model.signed(8, 1, a, b), (0, remainder))
 
     def test_packing_widths(self):
-        self.assertEqual([model.packing_width(3, 3 + wide) for wide in (0, 1, 255, 256)], [1, 1, 8, 9])
+        self.assertEqual([model.packing_width(3, 3 + wide) for wide in (0, 1, 255, 256)], [0, 1, 8, 9])
 
     def test_block_checks(self):
         checks = [model.check_of(model.make_block(0, values)) for values in ([], [3], [OVERFLOWED])]

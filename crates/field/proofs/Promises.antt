@@ -1,25 +1,24 @@
--- What the scan of a field and the look at its marks alone promise, one named theorem for each promise. The scan's
--- contract says that its answer is the one of `scanOf`; `Unique` says that no other answer is.
+-- What the scan of a field, the packing width and the look at a field's marks alone promise, one named theorem for each
+-- promise. The scan's contract says that its answer is the one of `scanOf`; `Unique` says that no other answer is.
 -- Assumes nothing.
-use mathlib.Core.Path.{_≡_, ap, sym, _∙_, subst}
+use mathlib.Core.Path.{_≡_, refl, ap, sym, _∙_, subst}
 use mathlib.Core.Logic.{_↔_, _⊎_, inl, inr, ⊎-elim}
 use mathlib.Core.List.{List}
-use Prim.Native.Nat.{ℕ, _+_, _-_, _^_, _≤_, _<_}
-use native.Mathlib.Numerals.{add-one}
+use Prim.Native.Nat.{ℕ, zero, suc, _+_, _-_, _^_, _≤_, _<_}
 use native.Mathlib.Omega.{arith}
 use lib.ListN.{length, getD}
 use Rattle.whole.specs.logarithm.{log-of}
 use Rattle.places.specs.Faults.{firstFault, NoFaultBefore, FirstFault}
 use Rattle.places.proofs.Faults.{faulty-at, faultless, walk, first-fault-is, no-fault-is}
 use Rattle.field.specs.Field.{markFault, faultOf, markFaultAt, faultAt, BadMark, EndsAt}
-use Rattle.field.specs.Range.{Holds, packingWidth, refused, rangeOf, scanOf}
+use Rattle.field.specs.Range.{Holds, Everywhere, packingWidth, SmallestWidth, refused, rangeOf, scanOf}
 use Rattle.field.proofs.Faults.{fits, overflowed, bad, standing, unmarked-faults, overflowed-faults}
 use Rattle.field.proofs.Faults.{bad-faults, bad-only, fault-not-6, fault-not-14}
 use Rattle.field.proofs.Ranges.{least-bound, greatest-bound, least-held, greatest-held}
-use Rattle.field.proofs.Widths.{width-bound, width-least}
+use Rattle.field.proofs.Widths.{width-bound, width-least, smallest-unique}
 use Rattle.field.proofs.Scans.{unequal, empty, ended, whole, stage}
 use Rattle.field.proofs.Scans.{at-unequal, at-empty, at-range, at-fault-exactly}
--- the contract on the earliest bad mark gives the place itself, and so leaves one
+-- the contracts on the earliest bad mark and on the packing width give the number itself, and so leave one
 pub use Rattle.little.proofs.Unique.{value-unique}
 
 -- ---- a place's fault, by its mark and its number
@@ -118,6 +117,39 @@ module _ (numbers marks : List ℕ) where
                 let a : ⊥ = omega (arith, first-fault-is markFaults (length numbers) j l m b) in absurd a
           ]
 
+-- ---- how many bits a range takes
+
+module _ (range : ℕ) where
+  -- none exactly where the range is 0
+  pub packing-width-0-exactly : (packingWidth range ≡ 0) ↔ (range ≡ 0)
+  unfolding packingWidth
+  packing-width-0-exactly = (only range, λ z. ap packingWidth z)
+    where
+      only : (range : ℕ) → packingWidth range ≡ 0 → range ≡ 0
+      only zero e = refl
+      only (suc below) e = omega arith
+
+  -- log(2, range) + 1 for any other
+  pub packing-width-is-log : 0 < range → packingWidth range ≡ log-of 2 range + 1
+  unfolding packingWidth
+  packing-width-is-log = rule range
+    where
+      rule : (range : ℕ) → 0 < range → packingWidth range ≡ log-of 2 range + 1
+      rule zero h = let f : ⊥ = omega arith in absurd f
+      rule (suc below) h = refl
+
+  -- w exactly where w is the smallest with range < 2^w: it is below that power, and below that of no smaller one
+  pub packing-width-exactly : (w : ℕ) → (packingWidth range ≡ w) ↔ SmallestWidth range w
+  packing-width-exactly w =
+      (λ e. subst (SmallestWidth range) e smallest, smallest-unique range (packingWidth range) w smallest)
+    where
+      smallest : SmallestWidth range (packingWidth range)
+      smallest = (width-bound range, width-least range)
+
+  -- a range of W bits takes at most W
+  pub packing-width-at-most : (W : ℕ) → range < 2 ^ W → packingWidth range ≤ W
+  packing-width-at-most = width-least range
+
 module _ (numbers marks : List ℕ) where
   -- ---- the range
 
@@ -166,25 +198,44 @@ module _ (numbers marks : List ℕ) where
     pub greatest-bounds : (i : ℕ) → i < length numbers → getD numbers i 0 ≤ scanOf numbers marks .greatest
     greatest-bounds i h = omega (arith, ap (λ s. s .greatest) (ranged-whole ranged .3), greatest-bound numbers i h)
 
-    width-given : scanOf numbers marks .width ≡ packingWidth (scanOf numbers marks .greatest - scanOf numbers marks .least)
+    -- the range
+    abbrev between : ℕ
+    between = scanOf numbers marks .greatest - scanOf numbers marks .least
+
+    -- the width is its packing width
+    pub width-given : scanOf numbers marks .width ≡ packingWidth between
     width-given =
         let e = ranged-whole ranged .3 in
         ap (λ s. s .width) e ∙ sym (ap (λ s. packingWidth (s .greatest - s .least)) e)
 
-    -- the width is log(2, greatest - least) + 1
-    pub width-is-log : scanOf numbers marks .width ≡ log-of 2 (scanOf numbers marks .greatest - scanOf numbers marks .least) + 1
-    unfolding packingWidth
-    width-is-log = width-given ∙ sym (add-one (log-of 2 (scanOf numbers marks .greatest - scanOf numbers marks .least)))
+    -- it is 0 exactly when the field is one number everywhere
+    pub no-bits-exactly : (scanOf numbers marks .width ≡ 0) ↔ Everywhere numbers (scanOf numbers marks .least)
+    no-bits-exactly = (only, given)
+      where
+        only : scanOf numbers marks .width ≡ 0 → Everywhere numbers (scanOf numbers marks .least)
+        only z i h =
+            let none = packing-width-0-exactly between .0 (sym width-given ∙ z) in
+            omega (arith, least-bounds i h, greatest-bounds i h)
 
-    -- what lies between them fits so many bits
-    pub width-bounds-range : scanOf numbers marks .greatest - scanOf numbers marks .least < 2 ^ scanOf numbers marks .width
-    width-bounds-range =
-        let range = scanOf numbers marks .greatest - scanOf numbers marks .least in
-        subst (λ w. range < 2 ^ w) (sym width-given) (width-bound range)
+        given : Everywhere numbers (scanOf numbers marks .least) → scanOf numbers marks .width ≡ 0
+        given same =
+            let (i, h, e) = greatest-among in
+            width-given ∙ packing-width-0-exactly between .1 (omega (arith, same i h))
 
-    -- and no smaller width of at least 1 does
-    pub width-smallest : (w : ℕ) → 0 < w → scanOf numbers marks .greatest - scanOf numbers marks .least < 2 ^ w → scanOf numbers marks .width ≤ w
-    width-smallest w p h = omega (arith, width-given, width-least (scanOf numbers marks .greatest - scanOf numbers marks .least) w p h)
+    -- and log(2, greatest - least) + 1 otherwise
+    pub width-is-log : 0 < between → scanOf numbers marks .width ≡ log-of 2 between + 1
+    width-is-log h = width-given ∙ packing-width-is-log between h
+
+    -- so it is the smallest w with greatest - least < 2^w
+    pub width-smallest : SmallestWidth between (scanOf numbers marks .width)
+    width-smallest = packing-width-exactly between (scanOf numbers marks .width) .0 (sym width-given)
+
+    -- numbers of W bits take at most W
+    pub width-at-most
+        : (W : ℕ) → ((i : ℕ) → i < length numbers → getD numbers i 0 < 2 ^ W) → scanOf numbers marks .width ≤ W
+    width-at-most W below =
+        let (i, h, e) = greatest-among in
+        width-smallest .1 W (omega (arith, below i h))
 
   -- ---- the refusals
 

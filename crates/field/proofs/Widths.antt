@@ -1,51 +1,43 @@
--- The packing width from what the logarithm answers, and what it bounds.
+-- The packing width is the smallest number of bits that hold a range, and what the leading zeros leave of them.
 -- Assumes nothing.
-use mathlib.Core.Path.{_≡_, ap, sym, _∙_}
-use Prim.Native.Nat.{ℕ, zero, suc, _+_, _^_, _≤_, _<_}
-use native.Mathlib.Nat.{pow-suc, pow-zero}
+use mathlib.Core.Path.{_≡_, sym, subst}
+use Prim.Native.Nat.{ℕ, zero, suc, _+_, _-_, _^_, _≤_, _<_}
+use native.Mathlib.Nat.{pow-zero, le-antisymm}
 use native.Mathlib.Numerals.{add-one}
 use native.Mathlib.Omega.{arith}
+use lib.Count.{leadingZeros, leading-of-zero, leading-top}
 use Rattle.whole.specs.logarithm.{log-of}
-use Rattle.whole.proofs.Naturals.{log-of-zero, log-of-floor}
-use Rattle.checked.specs.declared.refusal.Refusal.{Refusal}
-use Rattle.checked.specs.declared.types.Answer64.{Answer64}
-use Rattle.checked.specs.declared.types.Answer64.the-variants as answer
-use Rattle.checked.specs.declared.types.Checked64.the-variants.{Fits, Overflowed}
-use Rattle.checked.specs.Value.{Value}
-use Rattle.checked.specs.Paper.{paper, logOf, numberOf}
-use Rattle.checked.proofs.Unique.{not-zero}
-use Rattle.checked.proofs.Logarithms.{log-below-width}
-use borrow.Author.Tests.{eqb-false}
-use Rattle.field.specs.Range.{packingWidth}
+use Rattle.whole.proofs.Naturals.{log-of-floor, log-of-unique}
+use Rattle.checked.proofs.Logarithms.{log-before}
+use Rattle.field.specs.Range.{packingWidth, SmallestWidth}
 
--- ---- what the logarithm answers
-
-module _ (a : Answer64) (range : ℕ) (e : paper a ≡ logOf 2 range) where
-  -- a number is the logarithm
-  pub log-answered : (v : Value) (log : ℕ) → a ≡ answer.Value v → v ≡ Fits log → log ≡ log-of 2 range
-  log-answered v log p q = ap (λ p. p .number) (sym (ap paper (p ∙ ap answer.Value q)) ∙ e)
-
-  -- it is never overflowed, nor refused
-  pub log-not-overflowed : (v : Value) → a ≡ answer.Value v → v ≡ Overflowed → ⊥
-  log-not-overflowed v p q = omega (arith, ap (λ p. p .mark) (sym (ap paper (p ∙ ap answer.Value q)) ∙ e))
-
-  pub log-not-refused : (r : Refusal) → a ≡ answer.Refused r → ⊥
-  log-not-refused r p = eqb-false (numberOf r) 0 (not-zero r) (ap (λ p. p .code) (sym (ap paper p) ∙ e))
-
--- ---- the width
-
-pub width-from-log : (log range : ℕ) → log ≡ log-of 2 range → log + 1 ≡ packingWidth range
-unfolding packingWidth
-width-from-log log range e = add-one log ∙ ap suc e
+-- ---- the smallest width
 
 -- a range is below the power of 2 at its width
 pub width-bound : (range : ℕ) → range < 2 ^ packingWidth range
 unfolding packingWidth
-width-bound zero = omega (arith, pow-suc 2 (log-of 2 0), log-of-zero 2, ap (λ e. 2 ^ e) (log-of-zero 2), pow-zero 2)
-width-bound (suc range) = log-of-floor 2 (suc range) (omega arith) (omega arith) .1
+width-bound zero = omega (arith, pow-zero 2)
+width-bound (suc below) =
+    subst (λ w. suc below < 2 ^ w) (sym (add-one (log-of 2 (suc below))))
+    (log-of-floor 2 (suc below) (omega arith) (omega arith) .1)
 
--- and no width of at least 1 below it is enough
-pub width-least : (range w : ℕ) → 0 < w → range < 2 ^ w → packingWidth range ≤ w
+-- and at no smaller one
+pub width-least : (range w : ℕ) → range < 2 ^ w → packingWidth range ≤ w
 unfolding packingWidth
-width-least zero w p h = omega (arith, log-of-zero 2)
-width-least (suc range) w p h = log-below-width 2 (suc range) w (omega arith) p h
+width-least zero w h = omega arith
+width-least (suc below) zero h = let f : ⊥ = omega (arith, pow-zero 2) in absurd f
+width-least (suc below) (suc w) h = omega (arith, log-before 2 (suc below) w (omega arith) h)
+
+-- there is one smallest width
+pub smallest-unique : (range v w : ℕ) → SmallestWidth range v → SmallestWidth range w → v ≡ w
+smallest-unique range v w p q = le-antisymm (p .1 w (q .0)) (q .1 v (p .0))
+
+-- ---- by the leading zeros
+
+-- of W bits, what the leading zeros leave
+pub width-from-zeros : (W range : ℕ) → range < 2 ^ W → W - leadingZeros W range ≡ packingWidth range
+unfolding packingWidth
+width-from-zeros W zero h = omega (arith, leading-of-zero W)
+width-from-zeros W (suc below) h =
+    let top = leading-top W (suc below) (omega arith) h in
+    omega (arith, top .1, log-of-unique 2 (suc below) (top .0) (omega arith) (top .2) (top .3))

@@ -3,7 +3,7 @@
 use mathlib.Core.Path.{_≡_}
 use mathlib.Core.Bool.{cond}
 use mathlib.Core.List.{List, [], _∷_}
-use Prim.Native.Nat.{ℕ, suc, _-_, _<_, min, max}
+use Prim.Native.Nat.{ℕ, zero, suc, _+_, _-_, _^_, _≤_, _<_, min, max}
 use lib.Dec.{eqb}
 use lib.ListN.{length, getD}
 use Rattle.whole.specs.logarithm.{log-of}
@@ -30,9 +30,18 @@ greatest numbers = kept max numbers
 abbrev pub Holds : List ℕ → ℕ → Type 0
 Holds ns m = (i : ℕ) × (i < length ns) × (getD ns i 0 ≡ m)
 
--- the packing width of a range: log(2, range) + 1
+-- and every place does
+abbrev pub Everywhere : List ℕ → ℕ → Type 0
+Everywhere ns m = (i : ℕ) → i < length ns → getD ns i 0 ≡ m
+
+-- the packing width of a range: 0 for range 0, and log(2, range) + 1 otherwise
 unfoldable pub packingWidth : ℕ → ℕ
-packingWidth range = suc (log-of 2 range)
+packingWidth zero = 0
+packingWidth (suc below) = log-of 2 (suc below) + 1
+
+-- the smallest w with range < 2^w
+abbrev pub SmallestWidth : ℕ → ℕ → Type 0
+SmallestWidth range w = (range < 2 ^ w) × ((v : ℕ) → range < 2 ^ v → w ≤ v)
 
 -- ---- the scan
 
