@@ -363,6 +363,17 @@ static void pass_scan(function *f)
     sink += range.least + range.greatest + range.width;
 }
 
+/* fields of as many values as a block has, one after the other */
+static void pass_scan_short(function *f)
+{
+    scanner *entry = (scanner *)f;
+    struct razovinto_range range;
+    for (int b = 0; b < BLOCKS; b++) {
+        sink += entry(field_numbers + 55 * b, 55, field_marks + 55 * b, 55, RAZOVINTO_ANSWER(range));
+        sink += range.least + range.greatest + range.width;
+    }
+}
+
 static void pass_read(function *f)
 {
     reader *entry = (reader *)f;
@@ -626,6 +637,7 @@ static const struct subject subjects[] = {
     {"search, 55 values", full_blocks, pass_search, same_search, BESIDE_RUST(search), "block", BLOCKS, 0, 0.6},
     {"search, 1 value", short_blocks, pass_search, same_search, BESIDE_RUST(search), "block", BLOCKS, 0, 0.6},
     {"scan", any_field, pass_scan, same_scan, BESIDE_RUST(scan), "value", FIELD, 0, 1.05},
+    {"scan, 55 values", any_field, pass_scan_short, same_scan, BESIDE_RUST(scan), "field", BLOCKS, 0, 0},
     {"level scan, any", any_level, pass_level_scan, same_level_scan, BESIDE_BOTH(level_scan), "value", FIELD, 0, 0.8},
     {"level scan, rain", rain_level, pass_level_scan, same_level_scan, BESIDE_BOTH(level_scan), "value", FIELD, 0, 0.8},
     {"level scan, plateau", plateau_level, pass_level_scan, same_level_scan, BESIDE_BOTH(level_scan), "value", FIELD, 0, 0.8},

@@ -108,7 +108,7 @@ fn scan(numbers: &[u64], marks: &[u8]) -> (u32, [u64; 4]) {
         return (code, [place as u64, 0, 0, 0]);
     }
     let (least, greatest) = numbers.iter().fold((u64::MAX, 0), |(least, greatest), &n| (least.min(n), greatest.max(n)));
-    let width = (greatest - least).checked_ilog2().unwrap_or(0) + 1;
+    let width = (greatest - least).checked_ilog2().map_or(0, |log| log + 1);
     (0, [0, least, greatest, width as u64])
 }
 
