@@ -9,6 +9,7 @@ pub mod Powers
 pub mod Logarithms
 pub mod Standing
 pub mod Refused
+pub mod Known
 pub mod Unique
 pub mod Promises
 pub mod overflow

@@ -13,7 +13,7 @@ use Rattle.checked.proofs.Squares.{even-digit-kept, odd-digit-kept, no-
 abbrev pub powered : ℕ → Value → Value → ℕ → Value
 powered M first second e = checkedOf M (least M first * least M second ^ e)
 
-absorb-power : (M x y e : ℕ) → checkedOf M (x * least M (checkedOf M y) ^ e) ≡ checkedOf M (x * y ^ e)
+pub absorb-power : (M x y e : ℕ) → checkedOf M (x * least M (checkedOf M y) ^ e) ≡ checkedOf M (x * y ^ e)
 absorb-power M x y zero = ap (λ z. checkedOf M (x * z)) (pow-zero (least M (checkedOf M y)) ∙ sym (pow-zero y))
 absorb-power M x y (suc e) =
     let z = least M (checkedOf M y) in

@@ -14,15 +14,16 @@ use Rattle.whole.specs.logarithm.{log-of}
 use Rattle.whole.proofs.Naturals.{log-of-zero, log-of-floor, log-of-largest}
 use Rattle.checked.specs.declared.types.Both.{Both}
 use Rattle.checked.specs.declared.types.Checked64.the-variants.{Fits, Overflowed}
-use Rattle.checked.specs.Value.{Value, limitOf, Stands, Within, checkedOf, sumOf, productOf, bothOf}
-use Rattle.checked.specs.Value.{BothNumbers, OneOverflowed}
-use Rattle.checked.specs.Paper.{given, refused, dividedBy, leftBy, powersOf, logOf}
+use Rattle.checked.specs.Value.{Value, limitOf, Stands, Within, checkedOf, least, sumOf, productOf, raisedOf}
+use Rattle.checked.specs.Value.{bothOf, BothNumbers, FirstFits, OneOverflowed}
+use Rattle.checked.specs.Paper.{Paper, given, refused, dividedBy, leftBy, logOf}
 use Rattle.checked.specs.Paper.{quotientOf, remainderOf, powerOf, logarithmOf, plainOf}
 use Rattle.checked.specs.Pair.{pair, pairOf}
 use Rattle.checked.proofs.Limit.{fits, over, product-overflowed-zero, product-commutes, sum-overflowed-left}
 use Rattle.checked.proofs.Logarithms as logs
 use Rattle.checked.proofs.Standing.{standing, stands, sum-of-values, product-of-values, operation-stands, the-one}
 use Rattle.checked.proofs.Refused as refusals
+use Rattle.checked.proofs.Known as known
 use Rattle.checked.proofs.Unique.{both-is}
 
 -- ---- the limit, and what a value stands for
@@ -88,58 +89,59 @@ both-in-numbers a b x =
 
 -- ---- quotient, remainder, power, logarithm: the refusals
 
--- 3 exactly when an operand is overflowed
-pub quotient-3-exactly : (a b : Value) → (quotientOf a b .code ≡ 3) ↔ OneOverflowed a b
-quotient-3-exactly = refusals.three-exactly dividedBy (λ l r. refusals.divisor-not-three (l / r) r)
+-- 3 exactly when the left of a quotient or of a remainder, or the argument of a logarithm, is overflowed
+pub quotient-3-exactly : (a b : Value) → (quotientOf a b .code ≡ 3) ↔ (a ≡ Overflowed)
+quotient-3-exactly = refusals.three-exactly (λ l. 0) dividedBy (λ l r. refusals.divisor-not-three (l / r) r)
 
-pub remainder-3-exactly : (a b : Value) → (remainderOf a b .code ≡ 3) ↔ OneOverflowed a b
-remainder-3-exactly = refusals.three-exactly leftBy (λ l r. refusals.divisor-not-three (l % r) r)
+pub remainder-3-exactly : (a b : Value) → (remainderOf a b .code ≡ 3) ↔ (a ≡ Overflowed)
+remainder-3-exactly = refusals.three-exactly (λ l. l) leftBy (λ l r. refusals.divisor-not-three (l % r) r)
 
-pub power-3-exactly : (M : ℕ) (a b : Value) → (powerOf M a b .code ≡ 3) ↔ OneOverflowed a b
-power-3-exactly M = refusals.three-exactly (powersOf M) (λ l r. refusals.given-not-three (checkedOf M (l ^ r)))
-
-pub logarithm-3-exactly : (a b : Value) → (logarithmOf a b .code ≡ 3) ↔ OneOverflowed a b
-logarithm-3-exactly = refusals.three-exactly logOf (λ l r. refusals.base-not-three (log-of l r) l)
+pub logarithm-3-exactly : (a b : Value) → (logarithmOf a b .code ≡ 3) ↔ (b ≡ Overflowed)
+logarithm-3-exactly a b =
+    refusals.three-exactly (λ r. 0) (λ r l. logOf l r) (λ r l. refusals.base-not-three (log-of l r) l) b a
 
 -- 1 exactly when both fit and the divisor is 0
 pub quotient-1-exactly : (a b : Value) → (quotientOf a b .code ≡ 1) ↔ BothNumbers a b (λ l r. r ≡ 0)
-quotient-1-exactly = refusals.one-exactly dividedBy (λ l r. r ≡ 0) (λ l r. refusals.divisor-refused (l / r) r)
+quotient-1-exactly =
+    refusals.refused-exactly (λ l. 0) dividedBy (λ l r. r ≡ 0) 1 (omega arith) (omega arith)
+    (λ l r. refusals.divisor-refused (l / r) r)
 
 pub remainder-1-exactly : (a b : Value) → (remainderOf a b .code ≡ 1) ↔ BothNumbers a b (λ l r. r ≡ 0)
-remainder-1-exactly = refusals.one-exactly leftBy (λ l r. r ≡ 0) (λ l r. refusals.divisor-refused (l % r) r)
+remainder-1-exactly =
+    refusals.refused-exactly (λ l. l) leftBy (λ l r. r ≡ 0) 1 (omega arith) (omega arith)
+    (λ l r. refusals.divisor-refused (l % r) r)
 
 -- 2 exactly when both fit and the base is below 2
 pub logarithm-2-exactly : (a b : Value) → (logarithmOf a b .code ≡ 2) ↔ BothNumbers a b (λ l r. l < 2)
-logarithm-2-exactly = refusals.two-exactly logOf (λ l r. l < 2) (λ l r. refusals.base-refused (log-of l r) l)
+logarithm-2-exactly a b =
+    let exactly =
+    refusals.refused-exactly (λ r. 0) (λ r l. logOf l r) (λ r l. l < 2) 2 (omega arith) (omega arith)
+    (λ r l. refusals.base-refused (log-of l r) l) b a in
+    (λ e. refusals.other-way (exactly .0 e), λ p. exactly .1 (refusals.other-way p))
 
--- otherwise a value is given: exactly when both fit, and the divisor is above 0 or the base at least 2
-pub quotient-given-exactly : (a b : Value) → (quotientOf a b .code ≡ 0) ↔ BothNumbers a b (λ l r. 0 < r)
-quotient-given-exactly = refusals.given-exactly dividedBy (λ l r. 0 < r) (λ l r. refusals.divisor-passes (l / r) r)
+-- otherwise a value is given: exactly when the left fits and the right isn't 0, or the argument fits and the base isn't
+-- below 2
+pub quotient-given-exactly : (a b : Value) → (quotientOf a b .code ≡ 0) ↔ FirstFits a b (λ l r. 0 < r)
+quotient-given-exactly =
+    refusals.given-exactly (λ l. 0) dividedBy (λ l r. 0 < r) (λ l r. refusals.divisor-passes (l / r) r)
 
-pub remainder-given-exactly : (a b : Value) → (remainderOf a b .code ≡ 0) ↔ BothNumbers a b (λ l r. 0 < r)
-remainder-given-exactly = refusals.given-exactly leftBy (λ l r. 0 < r) (λ l r. refusals.divisor-passes (l % r) r)
+pub remainder-given-exactly : (a b : Value) → (remainderOf a b .code ≡ 0) ↔ FirstFits a b (λ l r. 0 < r)
+remainder-given-exactly =
+    refusals.given-exactly (λ l. l) leftBy (λ l r. 0 < r) (λ l r. refusals.divisor-passes (l % r) r)
 
-pub power-given-exactly : (M : ℕ) (a b : Value) → (powerOf M a b .code ≡ 0) ↔ BothNumbers a b (λ l r. Unit {0})
-power-given-exactly M =
-    refusals.given-exactly (powersOf M) (λ l r. Unit {0})
-    (λ l r. (λ e. tt, λ u. refusals.given-code (checkedOf M (l ^ r))))
+pub logarithm-given-exactly : (a b : Value) → (logarithmOf a b .code ≡ 0) ↔ FirstFits b a (λ r l. 2 ≤ l)
+logarithm-given-exactly a b =
+    refusals.given-exactly (λ r. 0) (λ r l. logOf l r) (λ r l. 2 ≤ l) (λ r l. refusals.base-passes (log-of l r) l) b a
 
-pub logarithm-given-exactly : (a b : Value) → (logarithmOf a b .code ≡ 0) ↔ BothNumbers a b (λ l r. 2 ≤ l)
-logarithm-given-exactly = refusals.given-exactly logOf (λ l r. 2 ≤ l) (λ l r. refusals.base-passes (log-of l r) l)
+-- a power is always given
+pub power-never-refused : (M : ℕ) (a b : Value) → powerOf M a b .code ≡ 0
+power-never-refused M a b = refusals.given-code (raisedOf M a b)
 
--- an overflowed operand is refused with 3, whatever the other is
+-- 3 comes whatever the other operand is, so before 1 and 2
 pub overflowed-refused
-    : (M : ℕ) (b : Value) →
-    (quotientOf Overflowed b ≡ refused 3) × (remainderOf Overflowed b ≡ refused 3) × (powerOf M Overflowed b ≡ refused 3) × (logarithmOf Overflowed b ≡ refused 3)
-overflowed-refused M b = (refl, refl, refl, refl)
-
-pub by-overflowed-refused
-    : (M l : ℕ) →
-    (quotientOf (Fits l) Overflowed ≡ refused 3)
-    × (remainderOf (Fits l) Overflowed ≡ refused 3)
-    × (powerOf M (Fits l) Overflowed ≡ refused 3)
-    × (logarithmOf (Fits l) Overflowed ≡ refused 3)
-by-overflowed-refused M l = (refl, refl, refl, refl)
+    : (b : Value) →
+    (quotientOf Overflowed b ≡ refused 3) × (remainderOf Overflowed b ≡ refused 3) × (logarithmOf b Overflowed ≡ refused 3)
+overflowed-refused b = (refl, refl, refl)
 
 -- where both fit, a divisor 0 is refused with 1 and a base below 2 with 2
 pub divisor-0-refused
@@ -174,9 +176,9 @@ power-fits M l r h = ap given (sym (fits M (l ^ r) h))
 pub power-overflows : (M l r : ℕ) → M < l ^ r → powerOf M (Fits l) (Fits r) ≡ given Overflowed
 power-overflows M l r h = ap given (sym (over M (l ^ r) h))
 
--- by 0 it is 1, of 0 too
-pub power-by-0 : (M l : ℕ) → 0 < M → powerOf M (Fits l) (Fits 0) ≡ given (Fits 1)
-power-by-0 M l h = ap (λ n. given (checkedOf M n)) (pow-zero l) ∙ ap given (sym (fits M 1 h))
+-- anything to the 0 is 1, 0 and an overflowed base too
+pub power-by-0 : (M : ℕ) (a : Value) → 0 < M → powerOf M a (Fits 0) ≡ given (Fits 1)
+power-by-0 M a h = ap (λ n. given (checkedOf M n)) (pow-zero (least M a)) ∙ ap given (sym (fits M 1 h))
 
 -- a logarithm of 0 is 0; of any other number it is the one e with l^e <= r < l^(e + 1)
 pub logarithm-of-0 : (l : ℕ) → 1 < l → logarithmOf (Fits l) (Fits 0) ≡ given (Fits 0)
@@ -190,7 +192,57 @@ logarithm-between l r h k =
     let b = log-of-floor l r h k in
     (log-of l r, ap (λ t. cond t (refused 2) (given (Fits (log-of l r)))) (le-ltb l 2 h), b .0, b .1)
 
--- the same of the logarithm itself, for every base and exponent: it is the largest e with l^e <= r
+-- ---- with an overflowed operand
+
+-- a fitting left by an overflowed right has the quotient 0, and is left whole
+pub by-overflowed
+    : (l : ℕ) → (quotientOf (Fits l) Overflowed ≡ given (Fits 0)) × (remainderOf (Fits l) Overflowed ≡ given (Fits l))
+by-overflowed l = (refl, refl)
+
+-- the logarithm of a fitting argument in an overflowed base is 0
+pub in-overflowed-base : (r : ℕ) → logarithmOf Overflowed (Fits r) ≡ given (Fits 0)
+in-overflowed-base r = refl
+
+-- 0 or 1 to an overflowed exponent is 0 or 1; any other base is overflowed, and so is an overflowed one
+pub small-to-overflowed : (M l : ℕ) → l < 2 → l ≤ M → powerOf M (Fits l) Overflowed ≡ given (Fits l)
+small-to-overflowed M l h k = ap given (sym (known.small-to-overflowed M l h) ∙ sym (fits M l k))
+
+pub large-to-overflowed : (M l : ℕ) → 2 ≤ l → powerOf M (Fits l) Overflowed ≡ given Overflowed
+large-to-overflowed M l h = ap given (sym (known.large-to-overflowed M l h))
+
+pub overflowed-to-overflowed : (M : ℕ) → powerOf M Overflowed Overflowed ≡ given Overflowed
+overflowed-to-overflowed M = ap given (sym (known.overflowed-to-overflowed M))
+
+-- an overflowed base to a fitting exponent of at least 1 is overflowed
+pub overflowed-to-more : (M r : ℕ) → 1 ≤ r → powerOf M Overflowed (Fits r) ≡ given Overflowed
+overflowed-to-more M r h = ap given (sym (known.overflowed-to-more M r (λ z. omega arith)))
+
+-- each of these answers, as any other, stands for what any numbers come to that the operands stand for
+module _ (M : ℕ) (a b : Value) (l r : ℕ) (p : Stands M a l) (q : Stands M b r) where
+  code-of : {x : Paper} (c : Value) → x ≡ given c → x .code ≡ 0
+  code-of c e = ap (λ x. x .code) e ∙ refusals.given-code c
+
+  pub quotient-stands : (c : Value) → quotientOf a b ≡ given c → Stands M c (l / r)
+  quotient-stands c e = known.quotient-given-stands M a b l r p q (quotient-given-exactly a b .0 (code-of c e)) c e
+
+  pub remainder-stands : (c : Value) → remainderOf a b ≡ given c → Stands M c (l % r)
+  remainder-stands c e = known.remainder-given-stands M a b l r p q (remainder-given-exactly a b .0 (code-of c e)) c e
+
+  pub power-stands : Stands M (raisedOf M a b) (l ^ r)
+  power-stands = operation-stands M (raisedOf M) _^_ (known.power-of-values M) a b l r p q
+
+  pub logarithm-stands : (c : Value) → logarithmOf a b ≡ given c → Stands M c (log-of l r)
+  logarithm-stands c e = known.logarithm-given-stands M a b l r p q (logarithm-given-exactly a b .0 (code-of c e)) c e
+
+-- and a power is the one value that does
+pub power-is-the-one
+    : (M : ℕ) (a b c : Value) → Within M a → Within M b → ((m n : ℕ) → Stands M a m → Stands M b n → Stands M c (m ^ n)) →
+    c ≡ raisedOf M a b
+power-is-the-one M = the-one M _^_
+
+-- ---- the logarithm itself
+
+-- for every base and exponent it is the largest e with l^e <= r
 pub log-of-nothing : (l : ℕ) → log-of l 0 ≡ 0
 log-of-nothing = log-of-zero
 

@@ -1,4 +1,5 @@
--- When an operation on two values is refused, and with which number: once over any operation on numbers.
+-- When an operation on two values is refused, and with which number: once over any operation that asks for an operand
+-- that fits.
 -- Assumes nothing.
 use mathlib.Core.Path.{_≡_, refl, ap, sym, _∙_, subst}
 use mathlib.Core.Bool.{Bool, true, false, cond, true≢false}
@@ -7,10 +8,9 @@ use Prim.Native.Nat.{ℕ, _≤_, _<_}
 use native.Mathlib.Omega.{arith}
 use borrow.Author.Tests.{eqb-true, eqb-false, eq-eqb, ne-eqb, ltb-true, ltb-false, lt-ltb, le-ltb}
 use lib.Dec.{eqb, ltb}
-use Rattle.checked.specs.declared.types.Both.the-variants as both
 use Rattle.checked.specs.declared.types.Checked64.the-variants.{Fits, Overflowed}
-use Rattle.checked.specs.Value.{Value, bothOf, BothNumbers, OneOverflowed}
-use Rattle.checked.specs.Paper.{Paper, given, refused, onBoth}
+use Rattle.checked.specs.Value.{Value, bothOf, BothNumbers, FirstFits, OneOverflowed}
+use Rattle.checked.specs.Paper.{Paper, given, refused, valueIn, asking}
 use Rattle.checked.specs.Pair.{pair, pairOf}
 
 -- ---- an answer behind a test
@@ -20,9 +20,10 @@ pub given-code : (c : Value) → given c .code ≡ 0
 given-code (Fits n) = refl
 given-code Overflowed = refl
 
-pub given-not-three : (c : Value) → given c .code ≡ 3 → ⊥
-given-not-three (Fits n) e = omega arith
-given-not-three Overflowed e = omega arith
+-- and is found in it again
+pub value-given : (c : Value) → valueIn (given c) ≡ c
+value-given (Fits n) = refl
+value-given Overflowed = refl
 
 -- of an answer that is refused with n where the test holds, and else gives m
 module _ (n m : ℕ) where
@@ -83,46 +84,50 @@ same-number : (m n : ℕ) → Fits m ≡ Fits n → m ≡ n
 unfolding numberIn
 same-number m n e = ap numberIn e
 
-neither : (l r : ℕ) → OneOverflowed (Fits l) (Fits r) → ⊥
+pub neither : (l r : ℕ) → OneOverflowed (Fits l) (Fits r) → ⊥
 neither l r (inl e) = not-overflowed l e
 neither l r (inr e) = not-overflowed r e
 
-module _ (f : ℕ → ℕ → Paper) where
-  -- 3 exactly when an operand is overflowed, where f itself never gives it
+-- an operation that asks for an operand that fits
+module _ (known : ℕ → ℕ) (f : ℕ → ℕ → Paper) where
+  -- 3 exactly when that operand is overflowed, where f itself never gives it
   pub three-exactly
-      : ((l r : ℕ) → f l r .code ≡ 3 → ⊥) → (a b : Value) → (onBoth f (bothOf a b) .code ≡ 3) ↔ OneOverflowed a b
-  three-exactly never Overflowed b = (λ e. inl refl, λ p. refl)
-  three-exactly never (Fits l) Overflowed = (λ e. inr refl, λ p. refl)
-  three-exactly never (Fits l) (Fits r) = (λ e. absurd (never l r e), λ p. absurd (neither l r p))
-
-  -- another number exactly when both fit and f gives it of their numbers
-  other-exactly
-      : (k : ℕ) (P : ℕ → ℕ → Type 0) → (3 ≡ k → ⊥) → ((l r : ℕ) → (f l r .code ≡ k) ↔ P l r) →
-      (a b : Value) → (onBoth f (bothOf a b) .code ≡ k) ↔ BothNumbers a b P
-  other-exactly k P n g Overflowed b = (λ e. absurd (n e), λ p. absurd (not-overflowed (p .0) (sym (p .2))))
-  other-exactly k P n g (Fits l) Overflowed = (λ e. absurd (n e), λ p. absurd (not-overflowed (p .1) (sym (p .3))))
-  other-exactly k P n g (Fits l) (Fits r) = (
-    λ e. (l, r, refl, refl, g l r .0 e),
-    λ p. g l r .1 (
-        subst (λ x. P x r) (sym (same-number l (p .0) (p .2)))
-        (subst (P (p .0)) (sym (same-number r (p .1) (p .3))) (p .4))),
-  )
+      : ((n m : ℕ) → f n m .code ≡ 3 → ⊥) → (a b : Value) → (asking known f a b .code ≡ 3) ↔ (a ≡ Overflowed)
+  three-exactly never Overflowed b = (λ e. refl, λ p. refl)
+  three-exactly never (Fits n) Overflowed =
+      (λ e. let no : ⊥ = omega arith in absurd no, λ p. absurd (not-overflowed n p))
+  three-exactly never (Fits n) (Fits m) = (λ e. absurd (never n m e), λ p. absurd (not-overflowed n p))
 
   module _ (P : ℕ → ℕ → Type 0) where
+    -- 1 or 2 exactly when both fit and f gives it of their numbers
+    pub refused-exactly
+        : (k : ℕ) → 0 < k → k < 3 → ((n m : ℕ) → (f n m .code ≡ k) ↔ P n m) →
+        (a b : Value) → (asking known f a b .code ≡ k) ↔ BothNumbers a b P
+    refused-exactly k h l g Overflowed b =
+        (λ e. let no : ⊥ = omega arith in absurd no, λ p. absurd (not-overflowed (p .0) (sym (p .2))))
+    refused-exactly k h l g (Fits n) Overflowed =
+        (λ e. let no : ⊥ = omega arith in absurd no, λ p. absurd (not-overflowed (p .1) (sym (p .3))))
+    refused-exactly k h l g (Fits n) (Fits m) = (
+      λ e. (n, m, refl, refl, g n m .0 e),
+      λ p. g n m .1 (
+          subst (λ x. P x m) (sym (same-number n (p .0) (p .2)))
+          (subst (P (p .0)) (sym (same-number m (p .1) (p .3))) (p .4))),
+    )
+
+    -- a value exactly when that operand fits and, where the other fits too, f gives one of their numbers
     pub given-exactly
-        : ((l r : ℕ) → (f l r .code ≡ 0) ↔ P l r) →
-        (a b : Value) → (onBoth f (bothOf a b) .code ≡ 0) ↔ BothNumbers a b P
-    given-exactly = other-exactly 0 P (λ e. omega arith)
+        : ((n m : ℕ) → (f n m .code ≡ 0) ↔ P n m) → (a b : Value) → (asking known f a b .code ≡ 0) ↔ FirstFits a b P
+    given-exactly g Overflowed b =
+        (λ e. let no : ⊥ = omega arith in absurd no, λ p. absurd (not-overflowed (p .0) (sym (p .1))))
+    given-exactly g (Fits n) Overflowed = (λ e. (n, refl, λ m q. absurd (not-overflowed m (sym q))), λ p. refl)
+    given-exactly g (Fits n) (Fits m) = (
+      λ e. (n, refl, λ j q. subst (P n) (same-number m j q) (g n m .0 e)),
+      λ p. g n m .1 (subst (λ x. P x m) (sym (same-number n (p .0) (p .1))) (p .2 m refl)),
+    )
 
-    pub one-exactly
-        : ((l r : ℕ) → (f l r .code ≡ 1) ↔ P l r) →
-        (a b : Value) → (onBoth f (bothOf a b) .code ≡ 1) ↔ BothNumbers a b P
-    one-exactly = other-exactly 1 P (λ e. omega arith)
-
-    pub two-exactly
-        : ((l r : ℕ) → (f l r .code ≡ 2) ↔ P l r) →
-        (a b : Value) → (onBoth f (bothOf a b) .code ≡ 2) ↔ BothNumbers a b P
-    two-exactly = other-exactly 2 P (λ e. omega arith)
+-- both numbers, the other way round
+pub other-way : {a b : Value} {P : ℕ → ℕ → Type 0} → BothNumbers b a (λ r l. P l r) → BothNumbers a b P
+other-way (r, l, q, p, h) = (l, r, p, q, h)
 
 -- ---- both numbers
 

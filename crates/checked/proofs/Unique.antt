@@ -20,7 +20,7 @@ use Rattle.checked.specs.declared.types.Option64.the-variants as o64
 use Rattle.checked.specs.declared.types.Both.{Both}
 use Rattle.checked.specs.declared.types.Both.the-variants as both
 use Rattle.checked.specs.Value.{Value, option, bothOf}
-use Rattle.checked.specs.Paper.{Paper, paper, plain, numberOf}
+use Rattle.checked.specs.Paper.{Paper, paper, plain, numberOf, valueIn}
 use Rattle.checked.specs.Pair.{Pair, pair, pairOf}
 use Rattle.checked.proofs.Refused.{pair-of-both}
 
@@ -121,10 +121,6 @@ module _ {A S : Type 0} (code : S → ℕ) (values : S → A) (refused : S → R
 
       pub told-apart : (x y : A) → told x ≡ told y → x ≡ y
       told-apart x y = both-told-apart x y (each x) (each y)
-
--- the value that an answer gives
-abbrev pub valueIn : Paper → Value
-valueIn p = cond (eqb (p .mark) 0) (c64.Fits (p .number)) c64.Overflowed
 
 -- ---- 64 bits
 

@@ -10,10 +10,8 @@ use Rattle.checked.specs.declared.types.Answer64.{Answer64}
 use Rattle.checked.specs.declared.types.Answer64.the-variants as answer
 use Rattle.checked.specs.declared.types.Plain64.{Plain64}
 use Rattle.checked.specs.declared.types.Plain64.the-variants as plain64
-use Rattle.checked.specs.declared.types.Both.{Both}
-use Rattle.checked.specs.declared.types.Both.the-variants as both
 use Rattle.checked.specs.declared.types.Checked64.the-variants.{Fits, Overflowed}
-use Rattle.checked.specs.Value.{Value, checkedOf, bothOf}
+use Rattle.checked.specs.Value.{Value, checkedOf, raisedOf}
 
 pub record Paper : Type 0 where
   pub code : ℕ
@@ -55,6 +53,10 @@ abbrev pub given : Value → Paper
 given (Fits n) = record { code = 0; place = 0; mark = 0; number = n }
 given Overflowed = record { code = 0; place = 0; mark = 1; number = 0 }
 
+-- the value that an answer gives
+abbrev pub valueIn : Paper → Value
+valueIn p = cond (eqb (p .mark) 0) (Fits (p .number)) Overflowed
+
 abbrev pub paper : Answer64 → Paper
 paper (answer.Value c) = given c
 paper (answer.Refused r) = refused (numberOf r)
@@ -85,22 +87,27 @@ logOf l r = cond (ltb l 2) (refused 2) (given (Fits (log-of l r)))
 
 -- ---- on checked values
 
--- an overflowed operand is refused with 3 before anything else is looked at
-abbrev pub onBoth : (ℕ → ℕ → Paper) → Both → Paper
-onBoth f (both.Numbers l r) = f l r
-onBoth f both.Overflowed = refused 3
+-- An operation that asks for an operand n that fits: refused with 3 where it is overflowed, before the other operand m
+-- is looked at. Where m alone is overflowed, the answer is known from n.
+abbrev pub asking : (known : ℕ → ℕ) (f : ℕ → ℕ → Paper) → Value → Value → Paper
+asking known f Overflowed b = refused 3
+asking known f (Fits n) Overflowed = given (Fits (known n))
+asking known f (Fits n) (Fits m) = f n m
 
+-- a quotient and a remainder ask for the left: by an overflowed right its quotient is 0, and it is left whole
 abbrev pub quotientOf : Value → Value → Paper
-quotientOf a b = onBoth dividedBy (bothOf a b)
+quotientOf a b = asking (λ l. 0) dividedBy a b
 
 abbrev pub remainderOf : Value → Value → Paper
-remainderOf a b = onBoth leftBy (bothOf a b)
+remainderOf a b = asking (λ l. l) leftBy a b
 
+-- a power asks for nothing, as a sum and a product don't
 abbrev pub powerOf : ℕ → Value → Value → Paper
-powerOf M a b = onBoth (powersOf M) (bothOf a b)
+powerOf M a b = given (raisedOf M a b)
 
+-- a logarithm asks for its argument: in an overflowed base it is 0
 abbrev pub logarithmOf : Value → Value → Paper
-logarithmOf a b = onBoth logOf (bothOf a b)
+logarithmOf a b = asking (λ r. 0) (λ r l. logOf l r) b a
 
 -- the plain number of a value
 abbrev pub plainOf : Value → Paper

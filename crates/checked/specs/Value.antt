@@ -1,4 +1,4 @@
--- Checked values over a limit M: what they stand for, their sum and their product.
+-- Checked values over a limit M: what they stand for, their sum, their product and their power.
 -- A checked value of any width is written as one of 64 bits.
 -- Assumes nothing.
 use mathlib.Core.Path.{_≡_}
@@ -44,6 +44,10 @@ sumOf M a b = checkedOf M (least M a + least M b)
 abbrev pub productOf : ℕ → Value → Value → Value
 productOf M a b = checkedOf M (least M a * least M b)
 
+-- a to the power of b
+abbrev pub raisedOf : ℕ → Value → Value → Value
+raisedOf M a b = checkedOf M (least M a ^ least M b)
+
 -- both numbers, where both fit
 abbrev pub bothOf : Value → Value → Both
 bothOf Overflowed b = both.Overflowed
@@ -53,6 +57,10 @@ bothOf (Fits m) (Fits n) = both.Numbers m n
 -- both fit, with numbers of which P holds
 abbrev pub BothNumbers : Value → Value → (ℕ → ℕ → Type 0) → Type 0
 BothNumbers a b P = (l : ℕ) × (r : ℕ) × (a ≡ Fits l) × (b ≡ Fits r) × P l r
+
+-- the first fits and, where the second fits too, P holds of their numbers
+abbrev pub FirstFits : Value → Value → (ℕ → ℕ → Type 0) → Type 0
+FirstFits a b P = (n : ℕ) × (a ≡ Fits n) × ((m : ℕ) → b ≡ Fits m → P n m)
 
 -- one of the two is overflowed, or both are
 abbrev pub OneOverflowed : Value → Value → Type 0

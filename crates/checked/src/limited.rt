@@ -8,7 +8,7 @@ ghost use mathlib.Core.Path.{_≡_};
 ghost use Prim.Native.Nat.{ℕ, _+_, _*_, _%_, _^_, _≤_, _<_, max, min};
 ghost use Rattle.whole.specs.logarithm.{log-of};
 ghost use Rattle.checked.specs.declared.types.Checked64.the-variants.{Fits, Overflowed};
-ghost use Rattle.checked.specs.Value.{checkedOf, sumOf, productOf, bothOf};
+ghost use Rattle.checked.specs.Value.{checkedOf, sumOf, productOf, raisedOf, bothOf};
 ghost use Rattle.checked.specs.Pair.{pair, pairOf};
 ghost use Rattle.checked.specs.Paper.{paper, refused, quotientOf, remainderOf, powerOf, logarithmOf, dividedBy, leftBy, logOf};
 
@@ -275,49 +275,118 @@ fn beside(m: u64, b: Checked64) -> Both
     }
 }
 
-// The answer where an operand is overflowed, whatever the other is: before a divisor 0 or a small base is looked at.
+// The answer where the operand that has to fit is overflowed, whatever the other is: before a divisor 0 or a small base
+// is looked at.
 fn overflowed_operand() -> Answer64
     ensures { λ r. ⌜ paper r ≡ refused 3 ⌝ }
 {
     Answer64::Refused(Refusal::Overflowed)
 }
 
-// The quotient of two checked values.
+// The quotient of two checked values; the left has to fit.
 pub fn quotient(a: Checked64, b: Checked64) -> Answer64
     ensures { λ r. ⌜ paper r ≡ quotientOf a b ⌝ }
 {
-    match both(a, b) {
-        Both::Numbers(m, n) => checked_div(m, n),
-        Both::Overflowed => overflowed_operand(),
+    match a {
+        Checked64::Fits(l) => quotient_by(l, b),
+        Checked64::Overflowed => overflowed_operand(),
     }
 }
 
-// The remainder of two checked values.
+// A number by any number above its limit goes no time.
+fn quotient_by(l: u64, b: Checked64) -> Answer64
+    ensures { λ r. ⌜ paper r ≡ quotientOf (Fits l) b ⌝ }
+{
+    match b {
+        Checked64::Fits(r) => checked_div(l, r),
+        Checked64::Overflowed => Answer64::Value(Checked64::Fits(0)),
+    }
+}
+
+// The remainder of two checked values; the left has to fit.
 pub fn remainder(a: Checked64, b: Checked64) -> Answer64
     ensures { λ r. ⌜ paper r ≡ remainderOf a b ⌝ }
 {
-    match both(a, b) {
-        Both::Numbers(m, n) => checked_rem(m, n),
-        Both::Overflowed => overflowed_operand(),
+    match a {
+        Checked64::Fits(l) => remainder_by(l, b),
+        Checked64::Overflowed => overflowed_operand(),
     }
 }
 
-// a to the power of b. A power above the limit is overflowed and not refused.
+// A number by any number above its limit is left whole.
+fn remainder_by(l: u64, b: Checked64) -> Answer64
+    ensures { λ r. ⌜ paper r ≡ remainderOf (Fits l) b ⌝ }
+{
+    match b {
+        Checked64::Fits(r) => checked_rem(l, r),
+        Checked64::Overflowed => Answer64::Value(Checked64::Fits(l)),
+    }
+}
+
+// a to the power of b: never refused, and overflowed where it is above the limit.
 pub fn power(limit: u64, a: Checked64, b: Checked64) -> Answer64
     ensures { λ r. ⌜ paper r ≡ powerOf limit a b ⌝ }
 {
-    match both(a, b) {
-        Both::Numbers(m, n) => Answer64::Value(checked_pow(limit, m, n)),
-        Both::Overflowed => overflowed_operand(),
+    match a {
+        Checked64::Fits(l) => Answer64::Value(power_by(limit, l, b)),
+        Checked64::Overflowed => Answer64::Value(overflowed_by(limit, b)),
     }
 }
 
-// The logarithm of b in the base a.
+fn power_by(limit: u64, l: u64, b: Checked64) -> Checked64
+    ensures { λ r. ⌜ r ≡ raisedOf limit (Fits l) b ⌝ }
+{
+    match b {
+        Checked64::Fits(r) => checked_pow(limit, l, r),
+        Checked64::Overflowed => to_overflowed(limit, l),
+    }
+}
+
+// A number to the power of any number above the limit: 0 and 1 stay what they are, and any other grows above it.
+fn to_overflowed(limit: u64, l: u64) -> Checked64
+    ensures { λ r. ⌜ r ≡ raisedOf limit (Fits l) Overflowed ⌝ }
+{
+    if l < 2 {
+        return checked_of(limit, l);
+    }
+    Checked64::Overflowed
+}
+
+fn overflowed_by(limit: u64, b: Checked64) -> Checked64
+    ensures { λ r. ⌜ r ≡ raisedOf limit Overflowed b ⌝ }
+{
+    match b {
+        Checked64::Fits(r) => overflowed_to(limit, r),
+        Checked64::Overflowed => Checked64::Overflowed,
+    }
+}
+
+// Any number above the limit, to the power of r: only to the 0 it doesn't stay above it.
+fn overflowed_to(limit: u64, r: u64) -> Checked64
+    ensures { λ c. ⌜ c ≡ raisedOf limit Overflowed (Fits r) ⌝ }
+{
+    if r == 0 {
+        return checked_of(limit, 1);
+    }
+    Checked64::Overflowed
+}
+
+// The logarithm of b in the base a; b has to fit.
 pub fn logarithm(a: Checked64, b: Checked64) -> Answer64
     ensures { λ r. ⌜ paper r ≡ logarithmOf a b ⌝ }
 {
-    match both(a, b) {
-        Both::Numbers(m, n) => checked_log(m, n),
-        Both::Overflowed => overflowed_operand(),
+    match b {
+        Checked64::Fits(n) => logarithm_of(a, n),
+        Checked64::Overflowed => overflowed_operand(),
+    }
+}
+
+// A number can't be divided by a base above its limit.
+fn logarithm_of(a: Checked64, n: u64) -> Answer64
+    ensures { λ r. ⌜ paper r ≡ logarithmOf a (Fits n) ⌝ }
+{
+    match a {
+        Checked64::Fits(base) => checked_log(base, n),
+        Checked64::Overflowed => Answer64::Value(Checked64::Fits(0)),
     }
 }

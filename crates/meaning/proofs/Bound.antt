@@ -1,14 +1,14 @@
 -- The bound on the count of steps: an operation takes at most W further steps, and fewer than half of a well-formed recipe's items are operations.
 -- Assumes nothing.
 use mathlib.Core.Path.{_≡_, refl, ap, sym, _∙_, subst}
-use mathlib.Core.Bool.{Bool, true, false}
+use mathlib.Core.Bool.{Bool, true, false, cond, _&&_}
 use mathlib.Core.List.{List, [], _∷_}
 use Prim.Native.Nat.{ℕ, suc, _+_, _-_, _*_, _/_, _≤_, _<_, zero-le}
 use native.Mathlib.Omega.{arith}
 use lib.Dec.{eqb, leb}
 use lib.ListN.{length}
 use lib.Pow.{lt-of-le-ones}
-use borrow.Author.Tests.{leb-true, eqb-true}
+use borrow.Author.Tests.{eqb-true}
 use Rattle.whole.specs.logarithm.{log-of}
 use Rattle.checked.specs.Value.{limitOf}
 use Rattle.checked.proofs.Logarithms.{log-below-width}
@@ -16,11 +16,18 @@ use Rattle.shape.specs.Items.{Operation, sum, product, quotient, remainder, pow
 use Rattle.shape.specs.Shape.{Good}
 use Rattle.meaning.specs.Meaning.{refusalAt, refusalOn, top, under, handOn}
 use Rattle.meaning.specs.Count.{digits, furtherAt, furtherOn, countFrom, count}
-use Rattle.meaning.proofs.Refusals.{passed, counted-at-most}
+use Rattle.meaning.proofs.Refusals.{BothFit, passed, counted, not-counted, both-fit-or-not}
 use Rattle.meaning.proofs.Digits.{digits-at-most}
 use Rattle.meaning.proofs.Operations.{operationsOf, operations, length-odd}
 
 -- ---- an operation
+
+-- what is counted only where both operands fit
+counted-at-most
+    : (W l r n : ℕ) → (BothFit (limitOf W) l r → n ≤ W) → cond (leb l (limitOf W) && leb r (limitOf W)) n 0 ≤ W
+counted-at-most W l r n h =
+    both-fit-or-not (limitOf W) l r (λ b. omega (arith, counted (limitOf W) l r n b, h b))
+    (λ o. omega (arith, not-counted (limitOf W) l r n o))
 
 pub further-at-most
     : (W : ℕ) (o : Operation) (l r : ℕ) → 0 < W →
@@ -30,13 +37,20 @@ further-at-most W product l r w e = zero-le
 further-at-most W quotient l r w e = zero-le
 further-at-most W remainder l r w e = zero-le
 further-at-most W power l r w e =
-    let M = limitOf W in
-    counted-at-most (leb l M) (leb r M) (digits r) W (λ b. digits-at-most W r (lt-of-le-ones W (leb-true r M (b .1))))
+    counted-at-most W l r (digits r) (λ b. digits-at-most W r (lt-of-le-ones W (b .1)))
 further-at-most W logarithm l r w e =
-    let M = limitOf W in
-    let base = passed logarithm (leb l M) (leb r M) l r e .1 in
-    counted-at-most (leb l M) (leb r M) (log-of l r) W
-    (λ b. omega (arith, log-below-width l r W base w (lt-of-le-ones W (leb-true r M (b .1)))))
+    counted-at-most W l r (log-of l r)
+    (λ b. omega (arith, log-below-width l r W (passed (limitOf W) logarithm l r e .1 (b .0)) w (lt-of-le-ones W (b .1))))
+
+-- with an operand above the limit it takes none
+pub nothing-further
+    : (M : ℕ) (o : Operation) (l r : ℕ) → (BothFit M l r → ⊥) → furtherAt M o l r ≡ 0
+nothing-further M sum l r h = refl
+nothing-further M product l r h = refl
+nothing-further M quotient l r h = refl
+nothing-further M remainder l r h = refl
+nothing-further M power l r h = not-counted M l r (digits r) h
+nothing-further M logarithm l r h = not-counted M l r (log-of l r) h
 
 -- ---- a recipe
 

@@ -7,13 +7,12 @@ use mathlib.Core.List.{List, [], _∷_}
 use Prim.Native.Nat.{ℕ, zero, suc, _+_, _≤_, _<_, zero-le, suc-le-suc}
 use native.Mathlib.Nat.{not-suc-le-zero, le-of-suc-le-suc, add-zero, zero-add, add-suc, suc-add}
 use native.Mathlib.Omega.{arith}
-use lib.Dec.{leb}
 use lib.ListN.{length, drop}
 use borrow.Author.Tests.{eq-eqb, ne-eqb}
 use Rattle.places.specs.Faults.{FirstFault, NoFaultBefore}
 use Rattle.places.proofs.Faults.{walk, faulty-at, faultless}
 use Rattle.shape.specs.Items.{Operation, Kind, literal, operation, unknown, Item}
-use Rattle.meaning.specs.Meaning.{refusal, top, under, refusalOn, handOn}
+use Rattle.meaning.specs.Meaning.{refusalAt, top, under, refusalOn, handOn}
 use Rattle.meaning.specs.Meaning.{Meant, number, failed, meaningFrom, meaning}
 use Rattle.meaning.specs.Faults.{handAfter, refusalHere, refusalOf, FirstRefusal, NoRefusal}
 use Rattle.meaning.proofs.Refusals.{row, passes, overflowed, by-zero, small-base}
@@ -114,9 +113,9 @@ module _ (M : ℕ) (xs : List Item) where
 
 -- ---- which refusals there can be
 
-refusal-at-most : (o : Operation) (s t : Bool) (l r : ℕ) → refusal o s t l r ≤ 3
-refusal-at-most o s t l r =
-    elim (row o s t l r) [
+refusal-at-most : (M : ℕ) (o : Operation) (l r : ℕ) → refusalAt M o l r ≤ 3
+refusal-at-most M o l r =
+    elim (row M o l r) [
       | passes k e ↦ subst (λ c. c ≤ 3) (sym e) zero-le
       | overflowed k e ↦ subst (λ c. c ≤ 3) (sym e) (omega arith)
       | by-zero k b e ↦ subst (λ c. c ≤ 3) (sym e) (omega arith)
@@ -125,8 +124,7 @@ refusal-at-most o s t l r =
 
 item-refusal-at-most : (M : ℕ) (hand : List ℕ) (k : Kind) → refusalOn M hand k ≤ 3
 item-refusal-at-most M hand literal = zero-le
-item-refusal-at-most M hand (operation o) =
-    refusal-at-most o (leb (top (under hand)) M) (leb (top hand) M) (top (under hand)) (top hand)
+item-refusal-at-most M hand (operation o) = refusal-at-most M o (top (under hand)) (top hand)
 item-refusal-at-most M hand unknown = zero-le
 
 here-at-most : (M : ℕ) (hand : List ℕ) (xs : List Item) → refusalHere M hand xs ≤ 3

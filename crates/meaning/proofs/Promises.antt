@@ -8,8 +8,9 @@ use mathlib.Core.List.{List, [], _∷_}
 use Prim.Native.Nat.{ℕ, suc, _+_, _-_, _*_, _/_, _%_, _^_, _≤_, _<_}
 use native.Mathlib.Omega.{arith}
 use lib.ListN.{length}
+use Rattle.whole.specs.logarithm.{log-of}
 use Rattle.checked.specs.Value.{limitOf}
-use Rattle.shape.specs.Items.{Operation, Item}
+use Rattle.shape.specs.Items.{Operation, power, logarithm, Item}
 use Rattle.shape.specs.Shape.{Good}
 use Rattle.shape.specs.Faults.{heldBefore}
 use Rattle.meaning.specs.Meaning.{number, failed, top, refusalAt, meaning}
@@ -17,13 +18,15 @@ use Rattle.meaning.specs.Faults.{handAfter, FirstRefusal, NoRefusal, Lef
 use Rattle.meaning.specs.Count.{digits, furtherAt, count}
 use Rattle.meaning.specs.Reaching.{reachingKinds, reachingNumbers, Reaches}
 pub use Rattle.meaning.proofs.Single.{sum-and-product, quotient-and-remainder, powers, logarithms}
-pub use Rattle.meaning.proofs.Single.{sum-and-product-never-refused, above-refused, divisor-zero-refused, divisor-not-refused}
-pub use Rattle.meaning.proofs.Single.{power-not-refused, base-below-two-refused, base-not-refused}
+pub use Rattle.meaning.proofs.Single.{never-refused, left-above-refused, argument-above-refused}
+pub use Rattle.meaning.proofs.Single.{divisor-zero-refused, divisor-not-refused}
+pub use Rattle.meaning.proofs.Single.{base-below-two-refused, base-not-refused}
 pub use Rattle.meaning.proofs.Single.{refusal-3-exactly, refusal-1-exactly, refusal-2-exactly}
-pub use Rattle.meaning.proofs.SameAsChecked.{same-as-checked}
+pub use Rattle.meaning.proofs.SameAsChecked.{same-as-checked, refused-as, given-as}
 pub use Rattle.meaning.proofs.Examples.{small-meanings}
 use Rattle.meaning.proofs.Digits as written
 use Rattle.meaning.proofs.Bound as bound
+use Rattle.meaning.proofs.Refusals as refusals
 use Rattle.meaning.proofs.Reaching.{reached}
 use Rattle.meaning.proofs.Hands.{hand-held, one-left}
 use Rattle.meaning.proofs.Failing as failing
@@ -68,6 +71,16 @@ digits-mean = written.digits-floor
 -- so each halving takes one away
 pub half-has-one-less : (e : ℕ) → 0 < e → digits e ≡ suc (digits (e / 2))
 half-has-one-less = written.digits-of-half
+
+-- a power counts the exponent's digits, and a logarithm the units of its answer, where both operands fit; with one
+-- above M each counts nothing but the step in which it is begun
+pub further-counted
+    : (M l r : ℕ) → l ≤ M → r ≤ M → (furtherAt M power l r ≡ digits r) × (furtherAt M logarithm l r ≡ log-of l r)
+further-counted M l r p q = (refusals.counted M l r (digits r) (p, q), refusals.counted M l r (log-of l r) (p, q))
+
+pub one-step-with-one-above
+    : (M : ℕ) (o : Operation) (l r : ℕ) → ((l ≤ M) × (r ≤ M) → ⊥) → furtherAt M o l r ≡ 0
+one-step-with-one-above = bound.nothing-further
 
 -- an operation of W bits takes at most W further steps
 pub further-at-most

@@ -2,44 +2,34 @@
 -- again after it.
 -- Assumes nothing.
 use mathlib.Core.Path.{_≡_, refl, ap, ap₂, sym, _∙_}
-use mathlib.Core.Bool.{true, false, cond}
+use mathlib.Core.Bool.{cond}
 use mathlib.Core.List.{List, [], _∷_}
 use Prim.Native.Nat.{ℕ, zero, suc, _+_, _-_, _*_, _/_, _^_, _≤_, _<_}
 use native.Mathlib.Nat.{le-refl}
 use native.Mathlib.Omega.{arith}
-use lib.Dec.{eqb}
-use lib.IntN.{natAbs}
 use lib.ListN.{length}
 use lib.Pow.{pow-mono}
-use borrow.Author.Tests.{le-leb, le-ltb}
-use Rattle.whole.proofs.power.{lemma1-pow}
-use Rattle.whole.proofs.Naturals.{natural-pow}
+use borrow.Author.Tests.{le-ltb}
 use Rattle.checked.specs.Value.{limitOf}
+use Rattle.checked.proofs.Known.{one-pow}
 use Rattle.shape.specs.Items.{power, kindOf, Item, items}
 use Rattle.shape.specs.Shape.{Good}
-use Rattle.meaning.specs.Meaning.{refusalAt, Meant, number, failed, meaningFrom}
+use Rattle.meaning.specs.Meaning.{number, meaningFrom}
 use Rattle.meaning.specs.Count.{digits, furtherAt, countFrom}
 use Rattle.meaning.specs.Reaching.{powersKinds, powersNumbers, reachingKinds, reachingNumbers, Reaches}
 use Rattle.meaning.proofs.Refusals.{counted}
-use Rattle.meaning.proofs.Single.{power-not-refused}
 use Rattle.meaning.proofs.Digits.{digits-of-limit}
 use Rattle.meaning.proofs.Bound.{halved}
 
 -- ---- a power of 1 by the limit, over any limit M of at least 1
 
-one-pow : (e : ℕ) → 1 ^ e ≡ 1
-one-pow e = ap natAbs (sym (natural-pow 1 e) ∙ lemma1-pow e)
-
 powers : ℕ → ℕ → List Item
 powers M m = items (powersKinds m) (powersNumbers M m)
 
 module _ (M : ℕ) (h : 1 ≤ M) where
-  -- 1 and M fit, so the power isn't refused, and each digit of M is counted
-  not-refused : refusalAt M power 1 M ≡ 0
-  not-refused = power-not-refused M 1 M h (le-refl M)
-
+  -- 1 and M fit, so each digit of M is counted
   digits-counted : furtherAt M power 1 M ≡ digits M
-  digits-counted = counted (digits M) (le-leb 1 M h, le-leb M M (le-refl M))
+  digits-counted = counted M 1 M (digits M) (h, le-refl M)
 
   powers-good : (m : ℕ) → Good M 1 (powers M m)
   unfolding kindOf powers
@@ -50,19 +40,14 @@ module _ (M : ℕ) (h : 1 ≤ M) where
   unfolding kindOf meaningFrom powers
   powers-meaning zero i = refl
   powers-meaning (suc m) i =
-      let later = meaningFrom M (suc (suc i)) (1 ^ M ∷ []) (powers M m) in
-      ap {B = Meant} (λ c. elim (eqb c 0) [ true ↦ later | false ↦ failed c (suc i) ]) not-refused
-      ∙ ap (λ p. meaningFrom M (suc (suc i)) (p ∷ []) (powers M m)) (one-pow M)
+      ap (λ p. meaningFrom M (suc (suc i)) (p ∷ []) (powers M m)) (one-pow M)
       ∙ powers-meaning m (suc (suc i))
 
   powers-count : (m : ℕ) → countFrom M (1 ∷ []) (powers M m) ≡ m + m + digits M * m
   unfolding kindOf countFrom powers
   powers-count zero = omega arith
   powers-count (suc m) =
-      let further = furtherAt M power 1 M in
-      let later = countFrom M (1 ^ M ∷ []) (powers M m) in
-      ap {B = ℕ} (λ c. suc (0 + elim (eqb c 0) [ true ↦ suc (further + later) | false ↦ 1 ])) not-refused
-      ∙ ap₂ (λ f p. suc (0 + suc (f + countFrom M (p ∷ []) (powers M m)))) digits-counted (one-pow M)
+      ap₂ (λ f p. suc (0 + suc (f + countFrom M (p ∷ []) (powers M m)))) digits-counted (one-pow M)
       ∙ ap (λ c. suc (0 + suc (digits M + c))) (powers-count m)
       ∙ omega arith
 

@@ -1,146 +1,166 @@
 -- The table of an operation's refusals, and the one view of it: which row applies, what is known there, and which
--- number is given. Every other proof goes by this page, so that a narrower refusal changes `refusal` and this page.
+-- number is given. Every other proof goes by this page, so that another refusal changes `refusalAt` and this page.
 -- Assumes nothing.
 use mathlib.Core.Path.{_≡_, refl, ap, ap₂, sym, _∙_}
 use mathlib.Core.Bool.{Bool, true, false, cond, _&&_}
-use Prim.Native.Nat.{ℕ, _≤_, zero-le}
-use native.Mathlib.Decide.{ℕ-discrete, decLt}
+use Prim.Native.Nat.{ℕ, _≤_, _<_, zero-le}
+use native.Mathlib.Decide.{ℕ-discrete, decLe, decLt}
 use native.Mathlib.Omega.{arith}
-use lib.Dec.{eqb, ltb}
-use borrow.Author.Tests.{eq-eqb, ne-eqb, lt-ltb, le-ltb}
+use lib.Dec.{eqb, leb, ltb}
+use borrow.Author.Tests.{eq-eqb, ne-eqb, le-leb, lt-leb, lt-ltb, le-ltb}
 use Rattle.shape.specs.Items.{Operation, sum, product, quotient, remainder, power, logarithm}
-use Rattle.meaning.specs.Meaning.{refusal}
-pub use Rattle.meaning.specs.Told.{AsksFitting, ByZero, SmallBase}
+use Rattle.meaning.specs.Meaning.{refusalAt}
+pub use Rattle.meaning.specs.Told.{Asked, ByZero, SmallBase}
 
--- ---- what is known in each row
+module _ (M : ℕ) where
+  -- ---- what is known in each row
 
-abbrev pub BothFit : Bool → Bool → Type 0
-BothFit lfits rfits = (lfits ≡ true) × (rfits ≡ true)
+  -- 3
+  abbrev pub Above : Operation → ℕ → ℕ → Type 0
+  Above o l r = Asked (λ n. M < n) o l r
 
--- 3
-abbrev pub Overflows : Operation → Bool → Bool → Type 0
-Overflows o lfits rfits = AsksFitting o × ((lfits && rfits) ≡ false)
+  -- 1 and 2
+  abbrev pub BothFit : ℕ → ℕ → Type 0
+  BothFit l r = (l ≤ M) × (r ≤ M)
 
--- no refusal
-abbrev pub Passes : Operation → Bool → Bool → ℕ → ℕ → Type 0
-Passes sum lfits rfits l r = Unit {0}
-Passes product lfits rfits l r = Unit {0}
-Passes quotient lfits rfits l r = BothFit lfits rfits × (r ≡ 0 → ⊥)
-Passes remainder lfits rfits l r = BothFit lfits rfits × (r ≡ 0 → ⊥)
-Passes power lfits rfits l r = BothFit lfits rfits
-Passes logarithm lfits rfits l r = BothFit lfits rfits × (2 ≤ l)
+  -- no refusal
+  abbrev pub Passes : Operation → ℕ → ℕ → Type 0
+  Passes sum l r = Unit {0}
+  Passes product l r = Unit {0}
+  Passes quotient l r = (l ≤ M) × (r ≡ 0 → ⊥)
+  Passes remainder l r = (l ≤ M) × (r ≡ 0 → ⊥)
+  Passes power l r = Unit {0}
+  Passes logarithm l r = (r ≤ M) × (l ≤ M → 2 ≤ l)
 
--- ---- the number given in each row
+  -- ---- the number given in each row
 
--- where both fit, a test of the numbers decides
-tested : {s t u v : Bool} (n : ℕ) → BothFit s t → u ≡ v → cond (s && t) (cond u n 0) 3 ≡ cond v n 0
-tested n (p, q) e = ap₂ (λ b u. cond b (cond u n 0) 3) (ap₂ _&&_ p q) e
+  -- where what has to fit does, a test of the numbers decides
+  tested : {s u v : Bool} (n : ℕ) → s ≡ true → u ≡ v → cond s (cond u n 0) 3 ≡ cond v n 0
+  tested n p e = ap₂ (λ s u. cond s (cond u n 0) 3) p e
 
-pub passing : (o : Operation) (s t : Bool) (l r : ℕ) → Passes o s t l r → refusal o s t l r ≡ 0
-passing sum s t l r k = refl
-passing product s t l r k = refl
-passing quotient s t l r (b, n) = tested 1 b (ne-eqb r 0 n)
-passing remainder s t l r (b, n) = tested 1 b (ne-eqb r 0 n)
-passing power s t l r (p, q) = ap (λ b. cond b 0 3) (ap₂ _&&_ p q)
-passing logarithm s t l r (b, h) = tested 2 b (le-ltb l 2 h)
+  -- a base that fits and is below 2
+  not-small : (l : ℕ) → (l ≤ M → 2 ≤ l) → (leb l M && ltb l 2) ≡ false
+  not-small l h =
+      elim (decLe l M) [
+        | yes p ↦ ap₂ _&&_ (le-leb l M p) (le-ltb l 2 (h p))
+        | no n ↦ let p : M < l = omega arith in ap (λ b. b && ltb l 2) (lt-leb l M p)
+      ]
 
-pub overflowing : (o : Operation) (s t : Bool) (l r : ℕ) → Overflows o s t → refusal o s t l r ≡ 3
-overflowing sum s t l r (a, e) = absurd a
-overflowing product s t l r (a, e) = absurd a
-overflowing quotient s t l r (a, e) = ap (λ b. cond b (cond (eqb r 0) 1 0) 3) e
-overflowing remainder s t l r (a, e) = ap (λ b. cond b (cond (eqb r 0) 1 0) 3) e
-overflowing power s t l r (a, e) = ap (λ b. cond b 0 3) e
-overflowing logarithm s t l r (a, e) = ap (λ b. cond b (cond (ltb l 2) 2 0) 3) e
+  pub passing : (o : Operation) (l r : ℕ) → Passes o l r → refusalAt M o l r ≡ 0
+  passing sum l r k = refl
+  passing product l r k = refl
+  passing quotient l r (p, n) = tested 1 (le-leb l M p) (ne-eqb r 0 n)
+  passing remainder l r (p, n) = tested 1 (le-leb l M p) (ne-eqb r 0 n)
+  passing power l r k = refl
+  passing logarithm l r (p, h) = tested 2 (le-leb r M p) (not-small l h)
 
-pub zero-divides : (o : Operation) (s t : Bool) (l r : ℕ) → ByZero o r → BothFit s t → refusal o s t l r ≡ 1
-zero-divides sum s t l r z b = absurd z
-zero-divides product s t l r z b = absurd z
-zero-divides quotient s t l r z b = tested 1 b (eq-eqb r 0 z)
-zero-divides remainder s t l r z b = tested 1 b (eq-eqb r 0 z)
-zero-divides power s t l r z b = absurd z
-zero-divides logarithm s t l r z b = absurd z
+  pub overflowing : (o : Operation) (l r : ℕ) → Above o l r → refusalAt M o l r ≡ 3
+  overflowing sum l r h = absurd h
+  overflowing product l r h = absurd h
+  overflowing quotient l r h = ap (λ b. cond b (cond (eqb r 0) 1 0) 3) (lt-leb l M h)
+  overflowing remainder l r h = ap (λ b. cond b (cond (eqb r 0) 1 0) 3) (lt-leb l M h)
+  overflowing power l r h = absurd h
+  overflowing logarithm l r h = ap (λ b. cond b (cond (leb l M && ltb l 2) 2 0) 3) (lt-leb r M h)
 
-pub base-too-small : (o : Operation) (s t : Bool) (l r : ℕ) → SmallBase o l → BothFit s t → refusal o s t l r ≡ 2
-base-too-small sum s t l r h b = absurd h
-base-too-small product s t l r h b = absurd h
-base-too-small quotient s t l r h b = absurd h
-base-too-small remainder s t l r h b = absurd h
-base-too-small power s t l r h b = absurd h
-base-too-small logarithm s t l r h b = tested 2 b (lt-ltb l 2 h)
+  pub zero-divides : (o : Operation) (l r : ℕ) → ByZero o r → BothFit l r → refusalAt M o l r ≡ 1
+  zero-divides sum l r z b = absurd z
+  zero-divides product l r z b = absurd z
+  zero-divides quotient l r z (p, q) = tested 1 (le-leb l M p) (eq-eqb r 0 z)
+  zero-divides remainder l r z (p, q) = tested 1 (le-leb l M p) (eq-eqb r 0 z)
+  zero-divides power l r z b = absurd z
+  zero-divides logarithm l r z b = absurd z
 
--- ---- the view
+  pub base-too-small : (o : Operation) (l r : ℕ) → SmallBase o l → BothFit l r → refusalAt M o l r ≡ 2
+  base-too-small sum l r h b = absurd h
+  base-too-small product l r h b = absurd h
+  base-too-small quotient l r h b = absurd h
+  base-too-small remainder l r h b = absurd h
+  base-too-small power l r h b = absurd h
+  base-too-small logarithm l r h (p, q) = tested 2 (le-leb r M q) (ap₂ _&&_ (le-leb l M p) (lt-ltb l 2 h))
 
-pub data Row (o : Operation) (s t : Bool) (l r : ℕ) : Type 0 where
-  passes : Passes o s t l r → refusal o s t l r ≡ 0 → Row o s t l r
-  overflowed : Overflows o s t → refusal o s t l r ≡ 3 → Row o s t l r
-  by-zero : ByZero o r → BothFit s t → refusal o s t l r ≡ 1 → Row o s t l r
-  small-base : SmallBase o l → BothFit s t → refusal o s t l r ≡ 2 → Row o s t l r
+  -- ---- the view
 
--- kinds 3 to 6, by what is so of their numbers where both fit
-by-fit : (o : Operation) → AsksFitting o → (s t : Bool) (l r : ℕ) → (BothFit s t → Row o s t l r) → Row o s t l r
-by-fit o a true true l r both = both (refl, refl)
-by-fit o a true false l r both = overflowed (a, refl) (overflowing o true false l r (a, refl))
-by-fit o a false t l r both = overflowed (a, refl) (overflowing o false t l r (a, refl))
+  pub data Row (o : Operation) (l r : ℕ) : Type 0 where
+    passes : Passes o l r → refusalAt M o l r ≡ 0 → Row o l r
+    overflowed : Above o l r → refusalAt M o l r ≡ 3 → Row o l r
+    by-zero : ByZero o r → BothFit l r → refusalAt M o l r ≡ 1 → Row o l r
+    small-base : SmallBase o l → BothFit l r → refusalAt M o l r ≡ 2 → Row o l r
 
--- a quotient and a remainder, by whether the divisor is 0
-divided
-    : (o : Operation) → AsksFitting o → (s t : Bool) (l r : ℕ) → (r ≡ 0 → ByZero o r) →
-    (BothFit s t → (r ≡ 0 → ⊥) → Passes o s t l r) → Row o s t l r
-divided o a s t l r zero other =
-    by-fit o a s t l r
-    (λ b. elim (ℕ-discrete r 0) [
-      | yes z ↦ by-zero (zero z) b (zero-divides o s t l r (zero z) b)
-      | no n ↦ passes (other b n) (passing o s t l r (other b n))
-    ])
+  -- a row by what is known in it
+  passes-so : (o : Operation) (l r : ℕ) → Passes o l r → Row o l r
+  passes-so o l r k = passes k (passing o l r k)
 
-pub row : (o : Operation) (s t : Bool) (l r : ℕ) → Row o s t l r
-row sum s t l r = passes tt refl
-row product s t l r = passes tt refl
-row quotient s t l r = divided quotient tt s t l r (λ z. z) (λ b n. (b, n))
-row remainder s t l r = divided remainder tt s t l r (λ z. z) (λ b n. (b, n))
-row power s t l r = by-fit power tt s t l r (λ b. passes b (passing power s t l r b))
-row logarithm s t l r =
-    by-fit logarithm tt s t l r
-    (λ b. elim (decLt l 2) [
-      | yes h ↦ small-base h b (base-too-small logarithm s t l r h b)
-      | no n ↦ let h : 2 ≤ l = omega arith in passes (b, h) (passing logarithm s t l r (b, h))
-    ])
+  overflowed-so : (o : Operation) (l r : ℕ) → Above o l r → Row o l r
+  overflowed-so o l r h = overflowed h (overflowing o l r h)
 
--- ---- read off the view
+  -- a quotient and a remainder, by whether the left fits and the divisor is 0
+  divided
+      : (o : Operation) (l r : ℕ) → (M < l → Above o l r) → (r ≡ 0 → ByZero o r) →
+      (l ≤ M → (r ≡ 0 → ⊥) → Passes o l r) → Row o l r
+  divided o l r above zero other =
+      elim (decLe l M) [
+        | yes p ↦
+            elim (ℕ-discrete r 0) [
+              | yes z ↦
+                  let b : BothFit l r = (p, omega arith) in by-zero (zero z) b (zero-divides o l r (zero z) b)
+              | no n ↦ passes-so o l r (other p n)
+            ]
+        | no n ↦ overflowed-so o l r (above (omega arith))
+      ]
 
--- what isn't refused passes
-pub passed : (o : Operation) (s t : Bool) (l r : ℕ) → refusal o s t l r ≡ 0 → Passes o s t l r
-passed o s t l r z =
-    elim (row o s t l r) [
-      | passes k e ↦ k
-      | overflowed k e ↦ let f : ⊥ = omega (arith, sym e ∙ z) in absurd f
-      | by-zero k b e ↦ let f : ⊥ = omega (arith, sym e ∙ z) in absurd f
-      | small-base k b e ↦ let f : ⊥ = omega (arith, sym e ∙ z) in absurd f
-    ]
+  pub row : (o : Operation) (l r : ℕ) → Row o l r
+  row sum l r = passes tt refl
+  row product l r = passes tt refl
+  row quotient l r = divided quotient l r (λ h. h) (λ z. z) (λ p n. (p, n))
+  row remainder l r = divided remainder l r (λ h. h) (λ z. z) (λ p n. (p, n))
+  row power l r = passes tt refl
+  row logarithm l r =
+      elim (decLe r M) [
+        | yes q ↦
+            elim (decLe l M) [
+              | yes p ↦
+                  elim (decLt l 2) [
+                    | yes h ↦ small-base h (p, q) (base-too-small logarithm l r h (p, q))
+                    | no n ↦ passes-so logarithm l r (q, λ p. omega arith)
+                  ]
+              | no n ↦ passes-so logarithm l r (q, λ p. absurd (n p))
+            ]
+        | no n ↦ overflowed-so logarithm l r (omega arith)
+      ]
 
--- ---- only the numbers of operands that fit matter
+  -- ---- read off the view
 
-unheard : (o : Operation) (s t : Bool) (l r m n : ℕ) → (s && t) ≡ false → refusal o s t l r ≡ refusal o s t m n
-unheard sum s t l r m n e = refl
-unheard product s t l r m n e = refl
-unheard quotient s t l r m n e = overflowing quotient s t l r (tt, e) ∙ sym (overflowing quotient s t m n (tt, e))
-unheard remainder s t l r m n e = overflowing remainder s t l r (tt, e) ∙ sym (overflowing remainder s t m n (tt, e))
-unheard power s t l r m n e = refl
-unheard logarithm s t l r m n e = overflowing logarithm s t l r (tt, e) ∙ sym (overflowing logarithm s t m n (tt, e))
+  -- what isn't refused passes
+  pub passed : (o : Operation) (l r : ℕ) → refusalAt M o l r ≡ 0 → Passes o l r
+  passed o l r z =
+      elim (row o l r) [
+        | passes k e ↦ k
+        | overflowed k e ↦ let f : ⊥ = omega (arith, sym e ∙ z) in absurd f
+        | by-zero k b e ↦ let f : ⊥ = omega (arith, sym e ∙ z) in absurd f
+        | small-base k b e ↦ let f : ⊥ = omega (arith, sym e ∙ z) in absurd f
+      ]
 
-pub only-fitting-heard
-    : (o : Operation) (s t : Bool) (l r m n : ℕ) → (s ≡ true → l ≡ m) → (t ≡ true → r ≡ n) →
-    refusal o s t l r ≡ refusal o s t m n
-only-fitting-heard o true true l r m n p q = ap₂ (refusal o true true) (p refl) (q refl)
-only-fitting-heard o true false l r m n p q = unheard o true false l r m n refl
-only-fitting-heard o false t l r m n p q = unheard o false t l r m n refl
+  -- ---- what is counted only where both fit
 
--- ---- what is counted only where both fit
+  pub counted : (l r n : ℕ) → BothFit l r → cond (leb l M && leb r M) n 0 ≡ n
+  counted l r n (p, q) = ap (λ b. cond b n 0) (ap₂ _&&_ (le-leb l M p) (le-leb r M q))
 
-pub counted : {s t : Bool} (n : ℕ) → BothFit s t → cond (s && t) n 0 ≡ n
-counted n (p, q) = ap (λ b. cond b n 0) (ap₂ _&&_ p q)
+  -- one of the two doesn't
+  one-above : (l r : ℕ) → (BothFit l r → ⊥) → (leb l M && leb r M) ≡ false
+  one-above l r h =
+      elim (decLe l M) [
+        | yes p ↦
+            let over : M < r = elim (decLe r M) [ yes q ↦ absurd (h (p, q)) | no n ↦ omega arith ] in
+            ap₂ _&&_ (le-leb l M p) (lt-leb r M over)
+        | no n ↦ let over : M < l = omega arith in ap (λ t. t && leb r M) (lt-leb l M over)
+      ]
 
-pub counted-at-most : (s t : Bool) (n W : ℕ) → (BothFit s t → n ≤ W) → cond (s && t) n 0 ≤ W
-counted-at-most true true n W h = h (refl, refl)
-counted-at-most true false n W h = zero-le
-counted-at-most false t n W h = zero-le
+  pub not-counted : (l r n : ℕ) → (BothFit l r → ⊥) → cond (leb l M && leb r M) n 0 ≡ 0
+  not-counted l r n h = ap (λ b. cond b n 0) (one-above l r h)
+
+  pub both-fit-or-not : {A : Type 0} (l r : ℕ) → (BothFit l r → A) → ((BothFit l r → ⊥) → A) → A
+  both-fit-or-not l r both one =
+      elim (decLe l M) [
+        | yes p ↦ elim (decLe r M) [ yes q ↦ both (p, q) | no n ↦ one (λ b. n (b .1)) ]
+        | no n ↦ one (λ b. n (b .0))
+      ]

@@ -1,97 +1,102 @@
--- An operation of a recipe answers what the same operation on checked values answers: the two tables of refusals and results are one.
+-- An operation of a recipe answers what the same operation on checked values answers: the two tables of refusals and
+-- results are one. So what checked values answer is what any numbers answer that they stand for.
 -- Assumes nothing.
-use mathlib.Core.Path.{_≡_, refl, ap, ap₂, sym, _∙_}
-use mathlib.Core.Bool.{Bool, true, false, cond, _&&_, true≢false}
-use Prim.Native.Nat.{ℕ, _/_, _%_, _≤_}
-use native.Mathlib.Nat.{div-le-self, mod-le}
-use native.Mathlib.Omega.{arith}
-use lib.Dec.{eqb, leb}
-use borrow.Author.Tests.{leb-true, eq-eqb, ne-eqb, lt-ltb, le-ltb}
+use mathlib.Core.Path.{_≡_, refl, ap, ap₂, sym, _∙_, subst}
+use mathlib.Core.Bool.{Bool, true, false, cond}
+use Prim.Native.Nat.{ℕ, _/_, _%_, _≤_, _<_}
+use lib.Dec.{eqb}
+use borrow.Author.Tests.{eqb-true, eq-eqb, lt-ltb}
 use Rattle.whole.specs.logarithm.{log-of}
-use Rattle.checked.specs.declared.types.Checked64.the-variants.{Fits, Overflowed}
-use Rattle.checked.specs.Value.{checkedOf, sumOf, productOf, bothOf}
-use Rattle.checked.specs.Paper.{Paper, given, refused, onBoth, dividedBy, leftBy, powersOf, logOf, quotientOf, remainderOf, powerOf, logarithmOf}
-use Rattle.checked.proofs.Limit.{fits}
-use Rattle.checked.proofs.Logarithms.{log-at-most}
-use Rattle.checked.proofs.Standing.{sum-of-values, product-of-values}
+use Rattle.checked.specs.declared.types.Checked64.the-variants.{Fits}
+use Rattle.checked.specs.Value.{Value, Stands, checkedOf}
+use Rattle.checked.specs.Paper.{given, refused, valueIn, quotientOf, remainderOf, logarithmOf}
+use Rattle.checked.proofs.Limit.{fits, over}
+use Rattle.checked.proofs.Known.{quotient-of-values, remainder-of-values, power-of-values, logarithm-of-values}
+use Rattle.checked.proofs.Refused.{given-code, value-given}
+use Rattle.checked.proofs.Standing.{standing, stands, sum-of-values, product-of-values}
 use Rattle.shape.specs.Items.{Operation, sum, product, quotient, remainder, power, logarithm}
 use Rattle.meaning.specs.Meaning.{worth, refusalAt}
-use Rattle.meaning.specs.Alone.{answer, alone}
-use Rattle.meaning.proofs.Refusals.{BothFit, Passes, ByZero, SmallBase}
+use Rattle.meaning.specs.Alone.{answer, alone, answerOn}
+use Rattle.meaning.proofs.Refusals.{Above, BothFit, Passes, ByZero, SmallBase}
 use Rattle.meaning.proofs.Refusals.{row, passes, overflowed, by-zero, small-base}
 
+-- the code of an answer
+pub answer-code : (c : ℕ) (v : Value) → answer c v .code ≡ c
+answer-code c v = by-test (eqb c 0) refl
+  where
+    by-test : (t : Bool) → eqb c 0 ≡ t → cond t (given v) (refused c) .code ≡ c
+    by-test true e = given-code v ∙ sym (eqb-true c 0 e)
+    by-test false e = refl
+
 module _ (M l r : ℕ) where
-  on-values : (ℕ → ℕ → Paper) → Paper
-  on-values f = onBoth f (bothOf (checkedOf M l) (checkedOf M r))
+  -- ---- row by row
 
-  -- where both fit, an operation f on numbers answers
-  on-numbers : (f : ℕ → ℕ → Paper) → BothFit (leb l M) (leb r M) → on-values f ≡ f l r
-  unfolding on-values
-  on-numbers f (p, q) = sym (ap (onBoth f) (ap₂ bothOf (fits M l (leb-true l M p)) (fits M r (leb-true r M q))))
+  passes-same
+      : (o : Operation) → Passes M o l r → given (checkedOf M (worth o l r)) ≡ answerOn M o (checkedOf M l) (checkedOf M r)
+  passes-same sum k = ap given (sym (sum-of-values M l r))
+  passes-same product k = ap given (sym (product-of-values M l r))
+  passes-same quotient (p, n) = sym (quotient-of-values M l r p n)
+  passes-same remainder (p, n) = sym (remainder-of-values M l r p n)
+  passes-same power k = ap given (sym (power-of-values M l r))
+  passes-same logarithm (q, h) = sym (logarithm-of-values M l r q h)
 
-  -- and where one doesn't, 3
-  one-above : (f : ℕ → ℕ → Paper) → (leb l M && leb r M) ≡ false → refused 3 ≡ on-values f
-  unfolding checkedOf on-values
-  one-above f e = by-test (leb l M) (leb r M) e
-    where
-      by-test
-          : (s t : Bool) → (s && t) ≡ false →
-          refused 3 ≡ onBoth f (bothOf (cond s (Fits l) Overflowed) (cond t (Fits r) Overflowed))
-      by-test true true e = absurd (true≢false e)
-      by-test true false e = refl
-      by-test false t e = refl
+  above-same : (o : Operation) → Above M o l r → refused 3 ≡ answerOn M o (checkedOf M l) (checkedOf M r)
+  above-same sum h = absurd h
+  above-same product h = absurd h
+  above-same quotient h = ap (λ v. quotientOf v (checkedOf M r)) (over M l h)
+  above-same remainder h = ap (λ v. remainderOf v (checkedOf M r)) (over M l h)
+  above-same power h = absurd h
+  above-same logarithm h = ap (λ v. logarithmOf (checkedOf M l) v) (over M r h)
 
-  -- so an operation f on numbers that answers by the table of refusals where both fit answers as the recipe's does
-  agrees
-      : (o : Operation) (f : ℕ → ℕ → Paper) →
-      (Passes o (leb l M) (leb r M) l r → BothFit (leb l M) (leb r M) × (given (checkedOf M (worth o l r)) ≡ f l r)) →
-      (ByZero o r → refused 1 ≡ f l r) → (SmallBase o l → refused 2 ≡ f l r) →
-      alone M o l r ≡ on-values f
-  agrees o f passed zero small =
-      elim (row o (leb l M) (leb r M) l r) [
-        | passes k e ↦ answered e ∙ passed k .1 ∙ sym (on-numbers f (passed k .0))
-        | overflowed k e ↦ answered e ∙ one-above f (k .1)
-        | by-zero k b e ↦ answered e ∙ zero k ∙ sym (on-numbers f b)
-        | small-base k b e ↦ answered e ∙ small k ∙ sym (on-numbers f b)
+  zero-same : (o : Operation) → ByZero o r → BothFit M l r → refused 1 ≡ answerOn M o (checkedOf M l) (checkedOf M r)
+  zero-same sum z b = absurd z
+  zero-same product z b = absurd z
+  zero-same quotient z (p, q) =
+      sym (ap (λ t. cond t (refused 1) (given (Fits (l / r)))) (eq-eqb r 0 z)) ∙ ap₂ quotientOf (fits M l p) (fits M r q)
+  zero-same remainder z (p, q) =
+      sym (ap (λ t. cond t (refused 1) (given (Fits (l % r)))) (eq-eqb r 0 z)) ∙ ap₂ remainderOf (fits M l p) (fits M r q)
+  zero-same power z b = absurd z
+  zero-same logarithm z b = absurd z
+
+  base-same : (o : Operation) → SmallBase o l → BothFit M l r → refused 2 ≡ answerOn M o (checkedOf M l) (checkedOf M r)
+  base-same sum h b = absurd h
+  base-same product h b = absurd h
+  base-same quotient h b = absurd h
+  base-same remainder h b = absurd h
+  base-same power h b = absurd h
+  base-same logarithm h (p, q) =
+      sym (ap (λ t. cond t (refused 2) (given (Fits (log-of l r)))) (lt-ltb l 2 h)) ∙ ap₂ logarithmOf (fits M l p) (fits M r q)
+
+  -- ---- the same answer
+
+  pub same-as-checked : (o : Operation) → alone M o l r ≡ answerOn M o (checkedOf M l) (checkedOf M r)
+  same-as-checked o =
+      elim (row M o l r) [
+        | passes k e ↦ answered e ∙ passes-same o k
+        | overflowed k e ↦ answered e ∙ above-same o k
+        | by-zero k b e ↦ answered e ∙ zero-same o k b
+        | small-base k b e ↦ answered e ∙ base-same o k b
       ]
     where
       answered : {c : ℕ} → refusalAt M o l r ≡ c → alone M o l r ≡ answer c (checkedOf M (worth o l r))
       answered e = ap (λ c. answer c (checkedOf M (worth o l r))) e
 
-  -- a quotient or a remainder that is at most l
-  divided
-      : (n : ℕ) → n ≤ l → BothFit (leb l M) (leb r M) → (r ≡ 0 → ⊥) →
-      given (checkedOf M n) ≡ cond (eqb r 0) (refused 1) (given (Fits n))
-  divided n h (p, q) z =
-      let k = leb-true l M p in
-      ap given (sym (fits M n (omega arith))) ∙ sym (ap (λ t. cond t (refused 1) (given (Fits n))) (ne-eqb r 0 z))
+  -- ---- whatever numbers the operands stand for
 
-  by-zero-too : (n : ℕ) → r ≡ 0 → refused 1 ≡ cond (eqb r 0) (refused 1) (given (Fits n))
-  by-zero-too n z = sym (ap (λ t. cond t (refused 1) (given (Fits n))) (eq-eqb r 0 z))
+  module _ (o : Operation) (a b : Value) (p : Stands M a l) (q : Stands M b r) where
+    answered-as : answerOn M o a b ≡ alone M o l r
+    answered-as = ap₂ (answerOn M o) (standing M a l p) (standing M b r q) ∙ sym (same-as-checked o)
 
-  -- a logarithm is at most r
-  found : BothFit (leb l M) (leb r M) → 2 ≤ l → given (checkedOf M (log-of l r)) ≡ logOf l r
-  found (p, q) h =
-      let k = leb-true r M q in
-      ap given (sym (fits M (log-of l r) (omega (arith, log-at-most l r h))))
-      ∙ sym (ap (λ t. cond t (refused 2) (given (Fits (log-of l r)))) (le-ltb l 2 h))
+    -- the refusal is theirs
+    pub refused-as : answerOn M o a b .code ≡ refusalAt M o l r
+    refused-as = ap (λ x. x .code) answered-as ∙ answer-code (refusalAt M o l r) (checkedOf M (worth o l r))
 
-  pub same-as-checked
-      : (alone M sum l r ≡ given (sumOf M (checkedOf M l) (checkedOf M r)))
-      × (alone M product l r ≡ given (productOf M (checkedOf M l) (checkedOf M r)))
-      × (alone M quotient l r ≡ quotientOf (checkedOf M l) (checkedOf M r))
-      × (alone M remainder l r ≡ remainderOf (checkedOf M l) (checkedOf M r))
-      × (alone M power l r ≡ powerOf M (checkedOf M l) (checkedOf M r))
-      × (alone M logarithm l r ≡ logarithmOf (checkedOf M l) (checkedOf M r))
-  unfolding on-values
-  same-as-checked = (
-    ap given (sym (sum-of-values M l r)),
-    ap given (sym (product-of-values M l r)),
-    agrees quotient dividedBy (λ k. (k .0, divided (l / r) (div-le-self l r) (k .0) (k .1)))
-        (by-zero-too (l / r)) (λ k. absurd k),
-    agrees remainder leftBy (λ k. (k .0, divided (l % r) (mod-le l r) (k .0) (k .1)))
-        (by-zero-too (l % r)) (λ k. absurd k),
-    agrees power (powersOf M) (λ k. (k, refl)) (λ k. absurd k) (λ k. absurd k),
-    agrees logarithm logOf (λ k. (k .0, found (k .0) (k .1))) (λ k. absurd k)
-        (λ h. sym (ap (λ t. cond t (refused 2) (given (Fits (log-of l r)))) (lt-ltb l 2 h))),
-  )
+    -- and a value that is given stands for what they come to
+    pub given-as : (c : Value) → answerOn M o a b ≡ given c → Stands M c (worth o l r)
+    given-as c e =
+        let z : refusalAt M o l r ≡ 0 = sym refused-as ∙ ap (λ x. x .code) e ∙ given-code c in
+        let so = sym answered-as ∙ e in
+        let same = sym (ap (λ k. answer k (checkedOf M (worth o l r))) z) ∙ so in
+        subst (λ v. Stands M v (worth o l r))
+        (sym (value-given (checkedOf M (worth o l r))) ∙ ap valueIn same ∙ value-given c)
+        (stands M (worth o l r))

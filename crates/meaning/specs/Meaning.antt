@@ -1,6 +1,6 @@
 -- What a recipe comes to over unlimited whole numbers: a number, or the first failing item with its refusal. The hand is a list, its top first.
 -- Assumes nothing.
-use mathlib.Core.Bool.{Bool, true, false, cond, _&&_}
+use mathlib.Core.Bool.{true, false, cond, _&&_}
 use mathlib.Core.List.{List, [], _∷_}
 use Prim.Native.Nat.{ℕ, suc, _+_, _*_, _/_, _%_, _^_}
 use lib.Dec.{eqb, leb, ltb}
@@ -17,18 +17,15 @@ worth remainder l r = l % r
 worth power l r = l ^ r
 worth logarithm l r = log-of l r
 
--- its refusal's number, or 0, where it is known of l and of r whether each is at most M: 3 comes before 1 and 2
-abbrev pub refusal : Operation → Bool → Bool → ℕ → ℕ → ℕ
-refusal sum lfits rfits l r = 0
-refusal product lfits rfits l r = 0
-refusal quotient lfits rfits l r = cond (lfits && rfits) (cond (eqb r 0) 1 0) 3
-refusal remainder lfits rfits l r = cond (lfits && rfits) (cond (eqb r 0) 1 0) 3
-refusal power lfits rfits l r = cond (lfits && rfits) 0 3
-refusal logarithm lfits rfits l r = cond (lfits && rfits) (cond (ltb l 2) 2 0) 3
-
--- at the limit M
+-- its refusal's number, or 0, at the limit M: 3 for a left of a quotient or a remainder, or an argument of a logarithm,
+-- above M; then, where both fit, 1 for a divisor 0 and 2 for a base below 2
 abbrev pub refusalAt : ℕ → Operation → ℕ → ℕ → ℕ
-refusalAt M o l r = refusal o (leb l M) (leb r M) l r
+refusalAt M sum l r = 0
+refusalAt M product l r = 0
+refusalAt M quotient l r = cond (leb l M) (cond (eqb r 0) 1 0) 3
+refusalAt M remainder l r = cond (leb l M) (cond (eqb r 0) 1 0) 3
+refusalAt M power l r = 0
+refusalAt M logarithm l r = cond (leb r M) (cond (leb l M && ltb l 2) 2 0) 3
 
 -- ---- an item
 

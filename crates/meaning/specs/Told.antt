@@ -4,14 +4,15 @@ use mathlib.Core.Path.{_≡_}
 use Prim.Native.Nat.{ℕ, _<_}
 use Rattle.shape.specs.Items.{Operation, sum, product, quotient, remainder, power, logarithm}
 
--- 3: kinds 3 to 6 ask for operands that fit
-abbrev pub AsksFitting : Operation → Type 0
-AsksFitting sum = ⊥
-AsksFitting product = ⊥
-AsksFitting quotient = Unit {0}
-AsksFitting remainder = Unit {0}
-AsksFitting power = Unit {0}
-AsksFitting logarithm = Unit {0}
+-- 3: of the operand that has to fit, the left of a quotient or a remainder and the argument of a logarithm, P holds.
+-- On numbers P is to be above M, on checked values to be overflowed
+abbrev pub Asked : {A : Type 0} → (A → Type 0) → Operation → A → A → Type 0
+Asked P sum l r = ⊥
+Asked P product l r = ⊥
+Asked P quotient l r = P l
+Asked P remainder l r = P l
+Asked P power l r = ⊥
+Asked P logarithm l r = P r
 
 -- 1: a divisor 0
 abbrev pub ByZero : Operation → ℕ → Type 0

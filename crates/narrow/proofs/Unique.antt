@@ -3,7 +3,8 @@
 use mathlib.Core.Path.{_≡_, refl}
 use Rattle.checked.specs.declared.types.Checked64.the-variants as c64
 use Rattle.checked.specs.Value.{Value}
-use Rattle.checked.proofs.Unique.{one, gives, refuses, told-apart, valueIn}
+use Rattle.checked.specs.Paper.{valueIn}
+use Rattle.checked.proofs.Unique.{one, gives, refuses, told-apart}
 use Rattle.narrow.specs.declared.types.Checked8.{Checked8}
 use Rattle.narrow.specs.declared.types.Checked8.the-variants as c8
 use Rattle.narrow.specs.declared.types.Answer8.{Answer8}

@@ -2,7 +2,7 @@
 -- Assumes nothing.
 use mathlib.Core.Path.{_≡_, refl, ap, sym, _∙_, subst}
 use mathlib.Core.Bool.{Bool, true, false, cond}
-use Prim.Native.Nat.{ℕ, _/_, _%_, _≤_, zero-le}
+use Prim.Native.Nat.{ℕ, _/_, _%_, _^_, _≤_, zero-le}
 use native.Mathlib.Nat.{div-le-self, mod-le, le-trans}
 use native.Mathlib.Decide.{decLe}
 use native.Mathlib.Omega.{arith}
@@ -76,15 +76,14 @@ quotient-keeps M (Fits l) (Fits r) h k = picked M 1 (l / r) (eqb r 0) (λ _. le-
 
 pub remainder-keeps : (M : ℕ) → Keeps M remainderOf
 remainder-keeps M Overflowed b h k = zero-le
-remainder-keeps M (Fits l) Overflowed h k = zero-le
+remainder-keeps M (Fits l) Overflowed h k = h
 remainder-keeps M (Fits l) (Fits r) h k = picked M 1 (l % r) (eqb r 0) (λ _. le-trans (mod-le l r) h)
 
 pub power-keeps : (M : ℕ) → Keeps M (powerOf M)
-power-keeps M Overflowed b h k = zero-le
-power-keeps M (Fits l) Overflowed h k = zero-le
-power-keeps M (Fits l) (Fits r) h k = checked-number M _
+power-keeps M a b h k = checked-number M (least M a ^ least M b)
 
 pub logarithm-keeps : (M : ℕ) → Keeps M logarithmOf
-logarithm-keeps M Overflowed b h k = zero-le
+logarithm-keeps M Overflowed Overflowed h k = zero-le
+logarithm-keeps M Overflowed (Fits r) h k = zero-le
 logarithm-keeps M (Fits l) Overflowed h k = zero-le
 logarithm-keeps M (Fits l) (Fits r) h k = picked M 2 (log-of l r) (ltb l 2) (λ e. le-trans (log-at-most l r (ltb-false l 2 e)) k)

@@ -1,20 +1,25 @@
--- The number with which an operation's first step is refused is the table's, and two values by what the table asks of
--- them.
+-- The number with which an operation's first step is refused is that of checked values, and which of the table's rows
+-- that is.
 -- Assumes nothing.
-use mathlib.Core.Path.{_≡_, refl, ap, ap₂, sym, _∙_}
-use mathlib.Core.Logic.{_↔_, inl, inr}
-use mathlib.Core.Bool.{Bool, true, false, cond, true≢false, _&&_}
-use Prim.Native.Nat.{ℕ}
-use borrow.Author.Tests.{eqb-true, ne-eqb}
+use mathlib.Core.Path.{_≡_, refl, ap, sym, _∙_}
+use mathlib.Core.Logic.{_↔_}
+use mathlib.Core.Bool.{Bool, true, false, cond}
+use Prim.Native.Nat.{ℕ, _%_}
+use native.Mathlib.Decide.{ℕ-discrete, decLt}
+use native.Mathlib.Omega.{arith}
+use borrow.Author.Tests.{eqb-true, eq-eqb, ne-eqb, lt-ltb, le-ltb}
 use lib.Dec.{eqb, leb}
 use Rattle.checked.specs.declared.types.Checked64.the-variants.{Fits, Overflowed}
-use Rattle.checked.specs.Value.{Value, checkedOf, least, BothNumbers, OneOverflowed}
+use Rattle.checked.specs.Value.{Value, checkedOf, sumOf, productOf, raisedOf, BothNumbers}
+use Rattle.checked.specs.Paper.{given, refused}
+use Rattle.checked.proofs.Refused.{given-code}
+use Rattle.checked.proofs.Promises.{quotient-3-exactly, remainder-3-exactly, logarithm-3-exactly}
+use Rattle.checked.proofs.Promises.{quotient-1-exactly, remainder-1-exactly, logarithm-2-exactly}
 use Rattle.shape.specs.Items.{Operation, sum, product, quotient, remainder, power, logarithm}
-use Rattle.meaning.specs.Meaning.{refusal}
-use Rattle.meaning.proofs.Refusals.{BothFit}
+use Rattle.meaning.specs.Told.{Asked, ByZero, SmallBase}
+use Rattle.meaning.specs.Alone.{answerOn}
 use Rattle.steps.specs.declared.types.Phase.the-variants.{InPower, InLogarithm}
-use Rattle.steps.specs.Steps.{Outcome, value, within, fails, powering, dividing, fitting, entered, begun}
-use Rattle.operation.proofs.Outcomes.{begun-fails}
+use Rattle.steps.specs.Steps.{Outcome, value, within, fails, powering, dividing, entered, begun}
 
 -- ---- the number
 
@@ -56,9 +61,9 @@ entered-code M logarithm (Fits l) Overflowed = refl
 entered-code M logarithm Overflowed b = refl
 
 module _ (M : ℕ) (o : Operation) (a b : Value) where
-  -- the table's number for two values
+  -- the number that checked values give
   abbrev pub tableCode : ℕ
-  tableCode = refusal o (fitting a) (fitting b) (least M a) (least M b)
+  tableCode = answerOn M o a b .code
 
   pub begun-code : codeOf (begun M o a b) ≡ tableCode
   unfolding begun
@@ -70,30 +75,111 @@ module _ (M : ℕ) (o : Operation) (a b : Value) where
       by-test true e = entered-code M o a b ∙ sym (eqb-true tableCode 0 e)
       by-test false e = refl
 
+  begun-fails : (c : ℕ) → eqb c 0 ≡ false → tableCode ≡ c → begun M o a b ≡ fails c
+  unfolding begun
+  begun-fails c n e =
+      ap {B = Outcome} (λ c. elim (eqb c 0) [ true ↦ entered M o a b | false ↦ fails c ]) e
+      ∙ ap {B = Outcome} (λ t. elim t [ true ↦ entered M o a b | false ↦ fails c ]) n
+
   pub fails-exactly : (c : ℕ) → (c ≡ 0 → ⊥) → (begun M o a b ≡ fails c) ↔ (tableCode ≡ c)
-  fails-exactly c n =
-      (λ e. sym begun-code ∙ ap codeOf e, λ e. sym (begun-fails M o a b c (ne-eqb c 0 n) e))
+  fails-exactly c n = (λ e. sym begun-code ∙ ap codeOf e, begun-fails c (ne-eqb c 0 n))
 
--- ---- what is so of two values
+-- ---- which row it is
 
-pub one-overflowed : (a b : Value) → (fitting a && fitting b) ≡ false → OneOverflowed a b
-one-overflowed (Fits l) (Fits r) e = absurd (true≢false e)
-one-overflowed (Fits l) Overflowed e = inr refl
-one-overflowed Overflowed b e = inl refl
+module _ (M : ℕ) (a b : Value) where
+  pub data Row (o : Operation) : Type 0 where
+    gives : tableCode M o a b ≡ 0 → Row o
+    overflowed : Asked (λ v. v ≡ Overflowed) o a b → tableCode M o a b ≡ 3 → Row o
+    by-zero : BothNumbers a b (λ l r. ByZero o r) → tableCode M o a b ≡ 1 → Row o
+    small-base : BothNumbers a b (λ l r. SmallBase o l) → tableCode M o a b ≡ 2 → Row o
 
-pub not-both-fit : (a b : Value) → OneOverflowed a b → (fitting a && fitting b) ≡ false
-not-both-fit a b (inl e) = ap (λ v. fitting v && fitting b) e
-not-both-fit (Fits l) b (inr e) = ap fitting e
-not-both-fit Overflowed b (inr e) = refl
+-- refused with k where the test holds, and else a value
+tested : (k m : ℕ) {t s : Bool} → t ≡ s → cond t (refused k) (given (Fits m)) .code ≡ cond s (refused k) (given (Fits m)) .code
+tested k m e = ap (λ t. cond t (refused k) (given (Fits m)) .code) e
 
-pub both-numbers
-    : (M : ℕ) (a b : Value) (P : ℕ → ℕ → Type 0) → BothFit (fitting a) (fitting b) → P (least M a) (least M b) →
-    BothNumbers a b P
-both-numbers M (Fits l) (Fits r) P f p = (l, r, refl, refl, p)
-both-numbers M (Fits l) Overflowed P f p = absurd (true≢false (sym (f .1)))
-both-numbers M Overflowed b P f p = absurd (true≢false (sym (f .0)))
+pub row : (M : ℕ) (o : Operation) (a b : Value) → Row M a b o
+row M sum a b = gives (given-code (sumOf M a b))
+row M product a b = gives (given-code (productOf M a b))
+row M quotient Overflowed b = overflowed refl refl
+row M quotient (Fits l) Overflowed = gives refl
+row M quotient (Fits l) (Fits r) =
+    elim (ℕ-discrete r 0) [
+      | yes z ↦ by-zero (l, r, refl, refl, z) (quotient-1-exactly (Fits l) (Fits r) .1 (l, r, refl, refl, z))
+      | no n ↦ gives (tested 1 _ (ne-eqb r 0 n))
+    ]
+row M remainder Overflowed b = overflowed refl refl
+row M remainder (Fits l) Overflowed = gives refl
+row M remainder (Fits l) (Fits r) =
+    elim (ℕ-discrete r 0) [
+      | yes z ↦ by-zero (l, r, refl, refl, z) (remainder-1-exactly (Fits l) (Fits r) .1 (l, r, refl, refl, z))
+      | no n ↦ gives (tested 1 _ (ne-eqb r 0 n))
+    ]
+row M power a b = gives (given-code (raisedOf M a b))
+row M logarithm (Fits l) Overflowed = overflowed refl refl
+row M logarithm Overflowed Overflowed = overflowed refl refl
+row M logarithm Overflowed (Fits r) = gives refl
+row M logarithm (Fits l) (Fits r) =
+    elim (decLt l 2) [
+      | yes h ↦ small-base (l, r, refl, refl, h) (logarithm-2-exactly (Fits l) (Fits r) .1 (l, r, refl, refl, h))
+      | no n ↦ gives (tested 2 _ (le-ltb l 2 (omega arith)))
+    ]
 
-pub code-of-numbers
-    : (M : ℕ) (o : Operation) (a b : Value) (l r : ℕ) → a ≡ Fits l → b ≡ Fits r →
-    tableCode M o a b ≡ refusal o true true l r
-code-of-numbers M o a b l r p q = ap₂ (tableCode M o) p q
+-- ---- and back
+
+module _ (M : ℕ) (a b : Value) where
+  pub asked-refused : (o : Operation) → Asked (λ v. v ≡ Overflowed) o a b → tableCode M o a b ≡ 3
+  asked-refused sum p = absurd p
+  asked-refused product p = absurd p
+  asked-refused quotient p = quotient-3-exactly a b .1 p
+  asked-refused remainder p = remainder-3-exactly a b .1 p
+  asked-refused power p = absurd p
+  asked-refused logarithm p = logarithm-3-exactly a b .1 p
+
+  pub zero-refused : (o : Operation) → BothNumbers a b (λ l r. ByZero o r) → tableCode M o a b ≡ 1
+  zero-refused sum p = absurd (p .4)
+  zero-refused product p = absurd (p .4)
+  zero-refused quotient p = quotient-1-exactly a b .1 p
+  zero-refused remainder p = remainder-1-exactly a b .1 p
+  zero-refused power p = absurd (p .4)
+  zero-refused logarithm p = absurd (p .4)
+
+  pub base-refused : (o : Operation) → BothNumbers a b (λ l r. SmallBase o l) → tableCode M o a b ≡ 2
+  base-refused sum p = absurd (p .4)
+  base-refused product p = absurd (p .4)
+  base-refused quotient p = absurd (p .4)
+  base-refused remainder p = absurd (p .4)
+  base-refused power p = absurd (p .4)
+  base-refused logarithm p = logarithm-2-exactly a b .1 p
+
+-- ---- a phase
+
+-- an outcome in a phase
+abbrev pub InPhase : Outcome → Type 0
+InPhase (value v) = ⊥
+InPhase (within p) = Unit {0}
+InPhase (fails c) = ⊥
+
+entered-phase
+    : (M : ℕ) (o : Operation) (a b : Value) → InPhase (entered M o a b) → BothNumbers a b (λ l r. Unit {0})
+entered-phase M sum a b h = absurd h
+entered-phase M product a b h = absurd h
+entered-phase M quotient a b h = absurd h
+entered-phase M remainder a b h = absurd h
+entered-phase M power (Fits l) (Fits r) h = (l, r, refl, refl, tt)
+entered-phase M power (Fits l) Overflowed h = absurd h
+entered-phase M power Overflowed b h = absurd h
+entered-phase M logarithm (Fits l) (Fits r) h = (l, r, refl, refl, tt)
+entered-phase M logarithm (Fits l) Overflowed h = absurd h
+entered-phase M logarithm Overflowed b h = absurd h
+
+-- so where an operand is overflowed an operation enters none
+pub begun-phase
+    : (M : ℕ) (o : Operation) (a b : Value) → InPhase (begun M o a b) → BothNumbers a b (λ l r. Unit {0})
+unfolding begun
+begun-phase M o a b = by-test (eqb (tableCode M o a b) 0)
+  where
+    by-test
+        : (t : Bool) → InPhase (elim t [ true ↦ entered M o a b | false ↦ fails (tableCode M o a b) ]) →
+        BothNumbers a b (λ l r. Unit {0})
+    by-test true h = entered-phase M o a b h
+    by-test false h = absurd h

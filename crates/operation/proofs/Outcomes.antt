@@ -1,23 +1,28 @@
 -- What a step of an operation comes to, by cases as the code has them.
 -- Assumes nothing.
 use mathlib.Core.Path.{_≡_, refl, ap, ap₂, sym, _∙_, subst}
-use mathlib.Core.Bool.{true, false, cond, _&&_}
-use Prim.Native.Nat.{ℕ, zero, suc, _+_, _/_, _%_, _≤_, _<_}
-use native.Mathlib.Nat.{not-suc-le-zero, le-div-iff-mul-le, div-add-mod, mul-le-mul-left}
+use mathlib.Core.Logic.{inl, inr}
+use mathlib.Core.Bool.{Bool, true, false, cond}
+use Prim.Native.Nat.{ℕ, suc, _+_, _/_, _%_, _≤_, _<_}
+use native.Mathlib.Nat.{le-div-iff-mul-le, div-add-mod, mul-le-mul-left}
 use native.Mathlib.Omega.{arith}
-use borrow.Author.Tests.{eq-eqb, ne-eqb, le-leb, lt-leb}
+use borrow.Author.Tests.{eq-eqb, ne-eqb, le-leb, lt-leb, lt-ltb, le-ltb}
 use lib.Dec.{eqb}
+use Rattle.whole.specs.logarithm.{log-of}
+use Rattle.checked.specs.declared.refusal.Refusal.{Refusal}
 use Rattle.checked.specs.declared.types.Both.{Both}
 use Rattle.checked.specs.declared.types.Both.the-variants as both
 use Rattle.checked.specs.declared.types.Checked64.the-variants.{Fits, Overflowed}
-use Rattle.checked.specs.Value.{Value, checkedOf, least, sumOf, productOf, bothOf}
+use Rattle.checked.specs.Value.{Value, checkedOf, sumOf, productOf, raisedOf, bothOf, OneOverflowed}
+use Rattle.checked.specs.Paper.{Paper, given, refused, numberOf, quotientOf, remainderOf, powerOf, logarithmOf}
 use Rattle.checked.proofs.BothFit.{both-are}
+use Rattle.checked.proofs.Unique.{not-zero}
 use Rattle.shape.specs.Items.{Operation, sum, product, quotient, remainder, power, logarithm, operation, kindOf}
 use Rattle.shape.proofs.Codes.{kind-at, kind-unknown}
-use Rattle.meaning.specs.Meaning.{refusal}
-use Rattle.meaning.proofs.Refusals.{AsksFitting, ByZero, passing, overflowing, zero-divides, base-too-small}
 use Rattle.steps.specs.declared.types.Phase.the-variants.{InPower, InLogarithm}
-use Rattle.steps.specs.Steps.{Outcome, value, within, fails, powering, powerStep, dividing, fitting, entered, begun}
+use Rattle.steps.specs.Steps.{Outcome, value, within, fails, powering, powerStep, dividing}
+use Rattle.steps.specs.Steps.{atOnce, unlessRefused, begun}
+use Rattle.steps.proofs.Apart.{power-apart, logarithm-apart}
 use Rattle.operation.specs.Work.{begunAs, SoundLogarithm}
 
 -- ---- within a power and a logarithm
@@ -77,57 +82,91 @@ sound-step base left count (b, s) h =
 
 -- ---- an operation begun
 
+-- a value that is given refuses nothing
+given-goes : (v : Value) (w : Outcome) → w ≡ unlessRefused (given v) w
+given-goes (Fits n) w = refl
+given-goes Overflowed w = refl
+
+-- an answer of checked values had in one step
+abbrev pub told : Paper → Outcome
+told p = unlessRefused p (atOnce p)
+
+pub told-value : (v : Value) → value v ≡ told (given v)
+told-value (Fits n) = refl
+told-value Overflowed = refl
+
+pub told-refused : (r : Refusal) → fails (numberOf r) ≡ told (refused (numberOf r))
+told-refused r =
+    let v = atOnce (refused (numberOf r)) in
+    sym (ap {B = Outcome} (λ t. elim t [ true ↦ v | false ↦ fails (numberOf r) ]) (not-zero r))
+
+-- a quotient and a remainder, by the test of the divisor
+told-divided
+    : (m : ℕ) {s t : Bool} → s ≡ t →
+    told (cond t (refused 1) (given (Fits m))) ≡ told (cond s (refused 1) (given (Fits m)))
+told-divided m e = sym (ap (λ t. told (cond t (refused 1) (given (Fits m)))) e)
+
 module _ (M : ℕ) where
   pub begun-sum : (a b : Value) → value (sumOf M a b) ≡ begun M sum a b
   unfolding begun
-  begun-sum a b = refl
+  begun-sum a b = given-goes (sumOf M a b) (value (sumOf M a b))
 
   pub begun-product : (a b : Value) → value (productOf M a b) ≡ begun M product a b
   unfolding begun
-  begun-product a b = refl
+  begun-product a b = given-goes (productOf M a b) (value (productOf M a b))
 
   pub begun-power : (l r : ℕ) → powering (checkedOf M 1) (Fits l) r ≡ begun M power (Fits l) (Fits r)
   unfolding begun
-  begun-power l r = refl
-
-  -- the table's number for two values
-  abbrev code : Operation → Value → Value → ℕ
-  code o a b = refusal o (fitting a) (fitting b) (least M a) (least M b)
-
-  -- by that number
-  onCode : Operation → Value → Value → ℕ → Outcome
-  onCode o a b c = elim (eqb c 0) [ true ↦ entered M o a b | false ↦ fails c ]
-
-  begun-entered : (o : Operation) (a b : Value) → code o a b ≡ 0 → entered M o a b ≡ begun M o a b
-  unfolding begun onCode
-  begun-entered o a b e = sym (ap (onCode o a b) e)
-
-  pub begun-fails : (o : Operation) (a b : Value) (c : ℕ) → eqb c 0 ≡ false → code o a b ≡ c → fails c ≡ begun M o a b
-  unfolding begun onCode
-  begun-fails o a b c n e =
-      sym (ap (onCode o a b) e ∙ ap {B = Outcome} (λ t. elim t [ true ↦ entered M o a b | false ↦ fails c ]) n)
+  begun-power l r = given-goes (raisedOf M (Fits l) (Fits r)) (powering (checkedOf M 1) (Fits l) r)
 
   pub begun-quotient : (l r : ℕ) → (r ≡ 0 → ⊥) → value (Fits (l / r)) ≡ begun M quotient (Fits l) (Fits r)
-  begun-quotient l r n = begun-entered quotient (Fits l) (Fits r) (passing quotient true true l r ((refl, refl), n))
+  unfolding begun
+  begun-quotient l r n = told-divided (l / r) (ne-eqb r 0 n)
 
   pub begun-remainder : (l r : ℕ) → (r ≡ 0 → ⊥) → value (Fits (l % r)) ≡ begun M remainder (Fits l) (Fits r)
-  begun-remainder l r n = begun-entered remainder (Fits l) (Fits r) (passing remainder true true l r ((refl, refl), n))
-
-  by-zero : (o : Operation) (l r : ℕ) → ByZero o r → fails 1 ≡ begun M o (Fits l) (Fits r)
-  by-zero o l r z = begun-fails o (Fits l) (Fits r) 1 refl (zero-divides o true true l r z (refl, refl))
+  unfolding begun
+  begun-remainder l r n = told-divided (l % r) (ne-eqb r 0 n)
 
   pub quotient-by-zero : (l r : ℕ) → r ≡ 0 → fails 1 ≡ begun M quotient (Fits l) (Fits r)
-  quotient-by-zero = by-zero quotient
+  unfolding begun
+  quotient-by-zero l r z = told-divided (l / r) (eq-eqb r 0 z)
 
   pub remainder-by-zero : (l r : ℕ) → r ≡ 0 → fails 1 ≡ begun M remainder (Fits l) (Fits r)
-  remainder-by-zero = by-zero remainder
+  unfolding begun
+  remainder-by-zero l r z = told-divided (l % r) (eq-eqb r 0 z)
+
+  -- a logarithm behind its test of the base
+  abbrev logarithmBegun : ℕ → ℕ → Bool → Outcome
+  logarithmBegun l r t = unlessRefused (cond t (refused 2) (given (Fits (log-of l r)))) (dividing l r 0)
 
   pub begun-logarithm : (l r : ℕ) → 2 ≤ l → dividing l r 0 ≡ begun M logarithm (Fits l) (Fits r)
-  begun-logarithm l r h = begun-entered logarithm (Fits l) (Fits r) (passing logarithm true true l r ((refl, refl), h))
+  unfolding begun
+  begun-logarithm l r h = sym (ap (logarithmBegun l r) (le-ltb l 2 h))
 
   pub small-base : (l r : ℕ) → l < 2 → fails 2 ≡ begun M logarithm (Fits l) (Fits r)
-  small-base l r h =
-      begun-fails logarithm (Fits l) (Fits r) 2 refl (base-too-small logarithm true true l r h (refl, refl))
+  unfolding begun
+  small-base l r h = sym (ap (logarithmBegun l r) (lt-ltb l 2 h))
+
+  -- with an overflowed operand a power and a logarithm, and always a quotient and a remainder, are answered at once
+  pub quotient-at-once : (a b : Value) → told (quotientOf a b) ≡ begun M quotient a b
+  unfolding begun
+  quotient-at-once a b = refl
+
+  pub remainder-at-once
+      : (a b : Value) → told (remainderOf a b) ≡ begun M remainder a b
+  unfolding begun
+  remainder-at-once a b = refl
+
+  pub power-at-once
+      : (a b : Value) → OneOverflowed a b → told (powerOf M a b) ≡ begun M power a b
+  unfolding begun
+  power-at-once a b o = ap (unlessRefused (powerOf M a b)) (sym (power-apart M a b o))
+
+  pub logarithm-at-once
+      : (a b : Value) → OneOverflowed a b →
+      told (logarithmOf a b) ≡ begun M logarithm a b
+  unfolding begun
+  logarithm-at-once a b o = ap (unlessRefused (logarithmOf a b)) (sym (logarithm-apart M a b o))
 
 -- ---- by the kind's code
 
@@ -159,27 +198,8 @@ Numbered : Both → Type 0
 Numbered (both.Numbers l r) = Unit {0}
 Numbered both.Overflowed = ⊥
 
-not-fitting : (a b : Value) → bothOf a b ≡ both.Overflowed → (fitting a && fitting b) ≡ false
+pub one-overflowed : (a b : Value) → bothOf a b ≡ both.Overflowed → OneOverflowed a b
 unfolding Numbered
-not-fitting (Fits l) (Fits r) e = absurd (subst Numbered e tt)
-not-fitting (Fits l) Overflowed e = refl
-not-fitting Overflowed b e = refl
-
--- kinds 3 to 6 ask for operands that fit
-asksFitting : (k : ℕ) → 2 < k → k < 7 → (o : Operation) × (kindOf k ≡ operation o) × AsksFitting o
-asksFitting zero h l = absurd (not-suc-le-zero h)
-asksFitting (suc zero) h l = let f : ⊥ = omega arith in absurd f
-asksFitting (suc (suc zero)) h l = let f : ⊥ = omega arith in absurd f
-asksFitting (suc (suc (suc zero))) h l = (quotient, kind-at 3, tt)
-asksFitting (suc (suc (suc (suc zero)))) h l = (remainder, kind-at 4, tt)
-asksFitting (suc (suc (suc (suc (suc zero))))) h l = (power, kind-at 5, tt)
-asksFitting (suc (suc (suc (suc (suc (suc zero)))))) h l = (logarithm, kind-at 6, tt)
-asksFitting (suc (suc (suc (suc (suc (suc (suc k))))))) h l = let f : ⊥ = omega arith in absurd f
-
-pub overflowed-begins
-    : (M : ℕ) (a b : Value) (k : ℕ) → 2 < k → k < 7 → bothOf a b ≡ both.Overflowed →
-    fails 3 ≡ begunAs M (kindOf k) a b
-overflowed-begins M a b k h l e =
-    let w = asksFitting k h l in
-    let three = overflowing (w .0) (fitting a) (fitting b) (least M a) (least M b) (w .2, not-fitting a b e) in
-    begins M a b k (w .1) refl (begun-fails M (w .0) a b 3 refl three)
+one-overflowed (Fits l) (Fits r) e = absurd (subst Numbered e tt)
+one-overflowed (Fits l) Overflowed e = inr refl
+one-overflowed Overflowed b e = inl refl

@@ -8,15 +8,15 @@ use native.Mathlib.Omega.{arith}
 use lib.Dec.{eqb, leb, ltb}
 use borrow.Author.Tests.{eqb-true, le-leb, lt-leb, lt-ltb, le-ltb}
 use Rattle.checked.specs.declared.types.Checked64.the-variants.{Fits, Overflowed}
-use Rattle.checked.specs.Value.{Value, limitOf, checkedOf, least}
+use Rattle.checked.specs.Value.{Value, limitOf, checkedOf}
+use Rattle.checked.proofs.Promises.{logarithm-given-exactly}
 use Rattle.shape.specs.Items.{Operation, sum, product, quotient, remainder, power, logarithm}
 use Rattle.shape.specs.Items.{Kind, literal, operation, unknown}
-use Rattle.meaning.specs.Meaning.{refusal}
-use Rattle.meaning.proofs.Refusals.{Passes, passed}
+use Rattle.meaning.specs.Alone.{answerOn}
 use Rattle.steps.specs.declared.types.Logarithm.{Logarithm}
 use Rattle.steps.specs.declared.types.Phase.{Phase}
 use Rattle.steps.specs.declared.types.Phase.the-variants.{Between, InPower, InLogarithm}
-use Rattle.steps.specs.Steps.{Outcome, value, within, fails, powering, dividing, fitting, entered, begun}
+use Rattle.steps.specs.Steps.{Outcome, value, within, fails, powering, dividing, entered, begun}
 use Rattle.steps.proofs.Within.{Working}
 use Rattle.operation.specs.Work.{Reach, reach, goneOn, begunAs, sound, workOf}
 
@@ -47,9 +47,7 @@ dividing-sound base left h = by-test (leb base left) refl
     by-test true e = ap₂ _&&_ (ap₂ _&&_ (lt-ltb 1 base h) e) (le-leb 0 (limitOf 64 - left) zero-le)
     by-test false e = tt
 
-entered-sound
-    : (M : ℕ) (o : Operation) (a b : Value) → Passes o (fitting a) (fitting b) (least M a) (least M b) →
-    SoundOutcome (entered M o a b)
+entered-sound : (M : ℕ) (o : Operation) (a b : Value) → answerOn M o a b .code ≡ 0 → SoundOutcome (entered M o a b)
 entered-sound M sum a b k = tt
 entered-sound M product a b k = tt
 entered-sound M quotient a b k = tt
@@ -57,7 +55,8 @@ entered-sound M remainder a b k = tt
 entered-sound M power (Fits l) (Fits r) k = powering-sound (checkedOf M 1) (Fits l) r
 entered-sound M power (Fits l) Overflowed k = tt
 entered-sound M power Overflowed b k = tt
-entered-sound M logarithm (Fits l) (Fits r) k = dividing-sound l r (k .1)
+entered-sound M logarithm (Fits l) (Fits r) k =
+    dividing-sound l r (logarithm-given-exactly (Fits l) (Fits r) .0 k .2 l refl)
 entered-sound M logarithm (Fits l) Overflowed k = tt
 entered-sound M logarithm Overflowed b k = tt
 
@@ -66,11 +65,10 @@ unfolding begun
 operation-sound M o a b = by-test (eqb code 0) refl
   where
     code : ℕ
-    code = refusal o (fitting a) (fitting b) (least M a) (least M b)
+    code = answerOn M o a b .code
 
     by-test : (t : Bool) → eqb code 0 ≡ t → SoundOutcome (elim t [ true ↦ entered M o a b | false ↦ fails code ])
-    by-test true e =
-        entered-sound M o a b (passed o (fitting a) (fitting b) (least M a) (least M b) (eqb-true code 0 e))
+    by-test true e = entered-sound M o a b (eqb-true code 0 e)
     by-test false e = tt
 
 pub begun-sound : (M : ℕ) (k : Kind) (a b : Value) → SoundOutcome (begunAs M k a b)

@@ -5,15 +5,22 @@ use crate::within::powering;
 use checked::limited::add_checked;
 use checked::limited::both;
 use checked::limited::checked_of;
+use checked::limited::logarithm;
 use checked::limited::mul_checked;
+use checked::limited::power;
+use checked::limited::quotient;
+use checked::limited::remainder;
 use checked::refusal::Refusal;
+use checked::types::Answer64;
 use checked::types::Both;
 use checked::types::Checked64;
 ghost use mathlib.Core.Path.{_≡_};
 ghost use Prim.Native.Nat.{_<_};
 ghost use Rattle.checked.specs.declared.types.Checked64.the-variants.{Fits};
+ghost use Rattle.checked.specs.Value.{OneOverflowed};
+ghost use Rattle.checked.specs.Paper.{paper};
 ghost use Rattle.shape.specs.Items.{kindOf, quotient, remainder, power, logarithm};
-ghost use Rattle.steps.specs.Steps.{begun};
+ghost use Rattle.steps.specs.Steps.{atOnce, unlessRefused, begun};
 ghost use Rattle.operation.specs.Work.{outcome, begunAs};
 
 // l by r, where both fit.
@@ -63,14 +70,37 @@ fn begin_fitting(limit: u64, kind: u8, l: u64, r: u64) -> Outcome
     }
 }
 
-// Kinds 3 to 6: an overflowed operand is refused before anything else is looked at.
+// The answer of checked numbers, which an operation has in its one step.
+fn at_once(answer: Answer64) -> Outcome
+    ensures { λ o. ⌜ outcome o ≡ unlessRefused (paper answer) (atOnce (paper answer)) ⌝ }
+{
+    match answer {
+        Answer64::Value(value) => Outcome::Value(value),
+        Answer64::Refused(refusal) => Outcome::Refused(refusal),
+    }
+}
+
+// Kinds 3 to 6 with an overflowed operand: no phase is entered, since the answer is known or refused at once.
+fn begin_apart(limit: u64, kind: u8, left: Checked64, right: Checked64) -> Outcome
+    requires { ⌜ (2 < kind) × (kind < 7) × OneOverflowed left right ⌝ }
+    ensures { λ o. ⌜ outcome o ≡ begunAs limit (kindOf kind) left right ⌝ }
+{
+    match kind {
+        3 => at_once(quotient(left, right)),
+        4 => at_once(remainder(left, right)),
+        5 => at_once(power(limit, left, right)),
+        _ => at_once(logarithm(left, right)),
+    }
+}
+
+// Kinds 3 to 6. Both marks are looked at together, since most values fit.
 fn begin_both(limit: u64, kind: u8, left: Checked64, right: Checked64) -> Outcome
     requires { ⌜ (2 < kind) × (kind < 7) ⌝ }
     ensures { λ o. ⌜ outcome o ≡ begunAs limit (kindOf kind) left right ⌝ }
 {
     match both(left, right) {
         Both::Numbers(l, r) => begin_fitting(limit, kind, l, r),
-        Both::Overflowed => Outcome::Refused(Refusal::Overflowed),
+        Both::Overflowed => begin_apart(limit, kind, left, right),
     }
 }
 

@@ -7,8 +7,8 @@ use Prim.Native.Nat.{ℕ}
 use lib.Dec.{eqb}
 use lib.ListN.{getD}
 use Rattle.checked.specs.declared.types.Checked64.the-variants.{Fits, Overflowed}
-use Rattle.checked.specs.Paper.{Paper}
-use Rattle.checked.proofs.Unique.{one, back, gives, refuses, told-back, valueIn}
+use Rattle.checked.specs.Paper.{Paper, valueIn}
+use Rattle.checked.proofs.Unique.{one, back, gives, refuses, told-back}
 use Rattle.steps.specs.declared.types.Phase.{Phase}
 use Rattle.steps.specs.declared.types.Phase.the-variants.{Between, InPower, InLogarithm}
 use Rattle.recipe.specs.declared.types.Answer.{Answer}

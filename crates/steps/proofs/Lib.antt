@@ -5,6 +5,7 @@ pub mod Within
 pub mod Powers
 pub mod Logarithms
 pub mod Work
+pub mod Apart
 pub mod Operations
 pub mod Items
 pub mod Agreement

@@ -4,14 +4,14 @@ use mathlib.Core.Bool.{Bool, true, false, cond}
 use Prim.Native.Nat.{ℕ, suc, _/_, _%_}
 use lib.Dec.{eqb, leb}
 use Rattle.checked.specs.declared.types.Checked64.the-variants.{Fits, Overflowed}
-use Rattle.checked.specs.Value.{Value, checkedOf, least, productOf}
+use Rattle.checked.specs.Value.{Value, checkedOf, productOf}
 use Rattle.shape.specs.Items.{Operation, sum, product, quotient, remainder, power, logarithm}
-use Rattle.meaning.specs.Meaning.{refusal}
+use Rattle.meaning.specs.Alone.{answerOn}
 use Rattle.steps.specs.declared.types.Power.{Power}
 use Rattle.steps.specs.declared.types.Logarithm.{Logarithm}
 use Rattle.steps.specs.declared.types.Phase.the-variants.{Between, InPower, InLogarithm}
 use Rattle.steps.specs.Steps.{Outcome, value, within, fails, powering, powerStep, dividing, logarithmStep}
-use Rattle.steps.specs.Steps.{fitting, entered, begun}
+use Rattle.steps.specs.Steps.{entered, begun}
 
 abbrev pub Working : Outcome → Type 0
 Working (value v) = Unit {0}
@@ -68,7 +68,7 @@ unfolding begun
 begun-works M o a b = by-test (eqb code 0)
   where
     code : ℕ
-    code = refusal o (fitting a) (fitting b) (least M a) (least M b)
+    code = answerOn M o a b .code
 
     by-test : (t : Bool) → Working (elim t [ true ↦ entered M o a b | false ↦ fails code ])
     by-test true = entered-works M o a b

@@ -1,15 +1,17 @@
 -- A run by single steps on checked values of the limit M, and its state after so many of them. The hand is a list, its top first.
 -- Assumes nothing.
 use mathlib.Core.Path.{_≡_}
-use mathlib.Core.Bool.{Bool, true, false, cond, not, _&&_}
+use mathlib.Core.Bool.{true, false, cond}
 use mathlib.Core.List.{List, [], _∷_}
 use Prim.Native.Nat.{ℕ, zero, suc, _/_, _%_}
 use lib.Dec.{eqb, leb}
 use lib.ListN.{length}
-use Rattle.checked.specs.declared.types.Checked64.the-variants.{Fits}
-use Rattle.checked.specs.Value.{Value, isOverflowed, checkedOf, least, sumOf, productOf}
+use Rattle.checked.specs.declared.types.Checked64.the-variants.{Fits, Overflowed}
+use Rattle.checked.specs.Value.{Value, checkedOf, sumOf, productOf}
+use Rattle.checked.specs.Paper.{Paper, valueIn, quotientOf, remainderOf, powerOf, logarithmOf}
 use Rattle.shape.specs.Items.{Operation, sum, product, quotient, remainder, power, logarithm, Kind, literal, operation, unknown, Item}
-use Rattle.meaning.specs.Meaning.{worth, refusal, Meant, number, failed, meaning}
+use Rattle.meaning.specs.Meaning.{Meant, number, failed, meaning}
+use Rattle.meaning.specs.Alone.{answerOn}
 use Rattle.meaning.specs.Count.{count}
 use Rattle.steps.specs.declared.types.Phase.{Phase}
 use Rattle.steps.specs.declared.types.Phase.the-variants.{Between, InPower, InLogarithm}
@@ -41,33 +43,30 @@ logarithmStep base left count = dividing base (left / base) (suc count)
 
 -- ---- an operation begun
 
--- whether an operand fits
-abbrev pub fitting : Value → Bool
-fitting v = not (isOverflowed v)
+-- the value of an answer of checked values, at once
+abbrev pub atOnce : Paper → Outcome
+atOnce p = value (valueIn p)
 
--- sums and products are those of checked values; a power and a logarithm whose operands both fit are worked out by
--- further steps. With an overflowed operand these two are refused, so that no run reaches their last arms: they wait
--- for the request that gives them an answer, No. 5
+-- not refused: a power and a logarithm whose operands both fit are worked out by further steps; all else has the value
+-- of checked values in this one
 abbrev pub entered : ℕ → Operation → Value → Value → Outcome
 entered M sum a b = value (sumOf M a b)
 entered M product a b = value (productOf M a b)
-entered M quotient a b = value (Fits (worth quotient (least M a) (least M b)))
-entered M remainder a b = value (Fits (worth remainder (least M a) (least M b)))
-entered M power a b = elim (fitting a && fitting b) [
-  | true ↦ powering (checkedOf M 1) a (least M b)
-  | false ↦ value (checkedOf M (worth power (least M a) (least M b)))
-]
-entered M logarithm a b = elim (fitting a && fitting b) [
-  | true ↦ dividing (least M a) (least M b) 0
-  | false ↦ value (checkedOf M (worth logarithm (least M a) (least M b)))
-]
+entered M quotient a b = atOnce (quotientOf a b)
+entered M remainder a b = atOnce (remainderOf a b)
+entered M power (Fits l) (Fits r) = powering (checkedOf M 1) (Fits l) r
+entered M power (Fits l) Overflowed = atOnce (powerOf M (Fits l) Overflowed)
+entered M power Overflowed b = atOnce (powerOf M Overflowed b)
+entered M logarithm (Fits l) (Fits r) = dividing l r 0
+entered M logarithm (Fits l) Overflowed = atOnce (logarithmOf (Fits l) Overflowed)
+entered M logarithm Overflowed b = atOnce (logarithmOf Overflowed b)
+
+-- refused as an answer of checked values is, or else this outcome
+abbrev pub unlessRefused : Paper → Outcome → Outcome
+unlessRefused p w = elim (eqb (p .code) 0) [ true ↦ w | false ↦ fails (p .code) ]
 
 unfoldable pub begun : ℕ → Operation → Value → Value → Outcome
-begun M o a b =
-    elim (eqb (refusal o (fitting a) (fitting b) (least M a) (least M b)) 0) [
-      | true ↦ entered M o a b
-      | false ↦ fails (refusal o (fitting a) (fitting b) (least M a) (least M b))
-    ]
+begun M o a b = unlessRefused (answerOn M o a b) (entered M o a b)
 
 -- ---- the state
 

@@ -1,21 +1,16 @@
 -- `limited::logarithm` meets its contract.
 -- Assumes nothing.
-use mathlib.Core.Path.{sym, _∙_}
-use Rattle.checked.specs.Paper.{onBoth, logOf}
+use Rattle.checked.specs.Paper.{logarithmOf}
 use Rattle.checked.proofs.Arms.{at}
-use Rattle.checked.proofs.Unique.{both-is}
 use borrow.Author.Needs.{needs}
 use Rattle.checked.proofs.limited.logarithm.Statement.{statement}
 use Rattle.checked.proofs.limited.logarithm.Tie as tie
 
-both-requires : tie.Need-both-requires
-both-requires c κs = search needs
+enum-known-b : tie.Need-enum-known-b
+enum-known-b c = search needs
 
-enum-known-m : tie.Need-enum-known-m
-enum-known-m c = search needs
-
-checked-log-requires : tie.Need-checked-log-requires
-checked-log-requires c κs = search needs
+logarithm-of-requires : tie.Need-logarithm-of-requires
+logarithm-of-requires c κs = search needs
 
 enum-told : tie.Need-enum-told
 enum-told c = search needs
@@ -25,24 +20,15 @@ overflowed-operand-requires c κs = search needs
 
 returns : tie.Need-returns
 returns c =
-    let g = c .before .before .before .before .before .args in
-    at (onBoth logOf) (c .checked-log .ensures)
-    (sym (both-is (g .a) (g .b) (c .before .before .before .before .both .ensures)) ∙ c .before .before .m .given .1)
+    let g = c .before .before .before .before .args in
+    at (logarithmOf (g .a)) (c .logarithm-of .ensures) (c .before .before .b .given .1)
 
 returns-2 : tie.Need-returns-2
 returns-2 c =
-    let g = c .before .before .before .before .args in
-    at (onBoth logOf) (c .overflowed-operand .ensures)
-    (sym (both-is (g .a) (g .b) (c .before .before .before .both .ensures)) ∙ c .before .enum-told .given .1)
+    let g = c .before .before .before .args in
+    at (logarithmOf (g .a)) (c .overflowed-operand .ensures) (c .before .enum-told .given .1)
 
 pub logarithm-spec : {M : Type 1} → statement M
 logarithm-spec =
     tie.close
-    (tie.spec
-    both-requires
-    enum-known-m
-    checked-log-requires
-    enum-told
-    overflowed-operand-requires
-    returns
-    returns-2)
+    (tie.spec enum-known-b logarithm-of-requires enum-told overflowed-operand-requires returns returns-2)

@@ -1,21 +1,16 @@
 -- `limited::quotient` meets its contract.
 -- Assumes nothing.
-use mathlib.Core.Path.{sym, _∙_}
-use Rattle.checked.specs.Paper.{onBoth, dividedBy}
+use Rattle.checked.specs.Paper.{quotientOf}
 use Rattle.checked.proofs.Arms.{at}
-use Rattle.checked.proofs.Unique.{both-is}
 use borrow.Author.Needs.{needs}
 use Rattle.checked.proofs.limited.quotient.Statement.{statement}
 use Rattle.checked.proofs.limited.quotient.Tie as tie
 
-both-requires : tie.Need-both-requires
-both-requires c κs = search needs
+enum-known-a : tie.Need-enum-known-a
+enum-known-a c = search needs
 
-enum-known-m : tie.Need-enum-known-m
-enum-known-m c = search needs
-
-checked-div-requires : tie.Need-checked-div-requires
-checked-div-requires c κs = search needs
+quotient-by-requires : tie.Need-quotient-by-requires
+quotient-by-requires c κs = search needs
 
 enum-told : tie.Need-enum-told
 enum-told c = search needs
@@ -25,24 +20,15 @@ overflowed-operand-requires c κs = search needs
 
 returns : tie.Need-returns
 returns c =
-    let g = c .before .before .before .before .before .args in
-    at (onBoth dividedBy) (c .checked-div .ensures)
-    (sym (both-is (g .a) (g .b) (c .before .before .before .before .both .ensures)) ∙ c .before .before .m .given .1)
+    let g = c .before .before .before .before .args in
+    at (λ v. quotientOf v (g .b)) (c .quotient-by .ensures) (c .before .before .a .given .1)
 
 returns-2 : tie.Need-returns-2
 returns-2 c =
-    let g = c .before .before .before .before .args in
-    at (onBoth dividedBy) (c .overflowed-operand .ensures)
-    (sym (both-is (g .a) (g .b) (c .before .before .before .both .ensures)) ∙ c .before .enum-told .given .1)
+    let g = c .before .before .before .args in
+    at (λ v. quotientOf v (g .b)) (c .overflowed-operand .ensures) (c .before .enum-told .given .1)
 
 pub quotient-spec : {M : Type 1} → statement M
 quotient-spec =
     tie.close
-    (tie.spec
-    both-requires
-    enum-known-m
-    checked-div-requires
-    enum-told
-    overflowed-operand-requires
-    returns
-    returns-2)
+    (tie.spec enum-known-a quotient-by-requires enum-told overflowed-operand-requires returns returns-2)

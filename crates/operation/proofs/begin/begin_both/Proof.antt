@@ -3,7 +3,7 @@
 use mathlib.Core.Path.{_∙_, sym}
 use borrow.Author.Needs.{needs}
 use Rattle.checked.proofs.Unique.{both-is}
-use Rattle.operation.proofs.Outcomes.{fitting-begins, overflowed-begins}
+use Rattle.operation.proofs.Outcomes.{fitting-begins, one-overflowed}
 use Rattle.operation.proofs.begin.begin_both.Statement.{statement}
 use Rattle.operation.proofs.begin.begin_both.Tie as tie
 
@@ -19,6 +19,13 @@ begin-fitting-requires c κs = search needs
 enum-told : tie.Need-enum-told
 enum-told c = search needs
 
+begin-apart-requires : tie.Need-begin-apart-requires
+begin-apart-requires c κs =
+    let s = c .before .before .before in
+    let g = s .args in
+    let told = both-is (g .left) (g .right) (c .before .before .both .ensures) in
+    (s .pre .0, s .pre .1, one-overflowed (g .left) (g .right) (sym told ∙ c .enum-told .given .1))
+
 returns : tie.Need-returns
 returns c =
     let g = c .before .before .before .before .before .args in
@@ -27,14 +34,9 @@ returns c =
     fitting-begins (g .limit) (g .left) (g .right) (g .kind) (v .0 .0) (v .0 .1 .0) fit (c .begin-fitting .ensures)
 
 returns-2 : tie.Need-returns-2
-returns-2 c =
-    let s = c .before .before .before in
-    let g = s .args in
-    let told = both-is (g .left) (g .right) (c .before .before .both .ensures) in
-    let overflowed = sym told ∙ c .enum-told .given .1 in
-    overflowed-begins (g .limit) (g .left) (g .right) (g .kind) (s .pre .0) (s .pre .1) overflowed
+returns-2 c = c .begin-apart .ensures
 
 pub begin-both-spec : {M : Type 1} → statement M
 begin-both-spec =
     tie.close
-    (tie.spec both-requires enum-known-l begin-fitting-requires enum-told returns returns-2)
+    (tie.spec both-requires enum-known-l begin-fitting-requires enum-told begin-apart-requires returns returns-2)
