@@ -6,7 +6,7 @@
 ! threads may call, each with lists of its own. docs/LINKING.md says what the host must keep.
 !
 ! The names are those of include/razovinto.h, but Fortran takes large letters for small ones, and has one meaning for a
-! name. So the kinds begin with razovinto_kind_; the refusal of an overflowed operand is razovinto_overflowed_operand;
+! name. So the kinds begin with razovinto_kind_; the refusal of an overflowed value is razovinto_overflowed_operand;
 ! and an answer of several numbers has the name of the function that writes it: razovinto_scan writes a
 ! type(razovinto_scan_answer), which has razovinto_scan_length numbers.
 !
@@ -256,7 +256,11 @@ module razovinto
     interface
         ! Runs a recipe at a width of 8, 16, 32 or 64 bits, for at most `allowance` steps. A recipe is two lists in
         ! postfix order: a literal is kind 0 with its number, an operation has the number 0 and takes the two values on
-        ! hand that come last. Refused with 5 to 13 for its shape, in this order: razovinto_unknown_width,
+        ! hand that come last. A result above the largest number of the width is overflowed, and the recipe goes on with
+        ! it. Overflowed times 0 is 0. A number by an overflowed right has the quotient 0 and the remainder itself;
+        ! anything to the power of 0 is 1, and 0 or 1 to an overflowed exponent is 0 or 1; a number's logarithm in an
+        ! overflowed base is 0. All else with an overflowed operand is overflowed, but for an overflowed left of a
+        ! quotient or a remainder and an overflowed argument of a logarithm, which are refused. Refused with 5 to 13 for its shape, in this order: razovinto_unknown_width,
         ! razovinto_lengths_differ, razovinto_item_count; item by item razovinto_unknown_kind, then
         ! razovinto_literal_too_large and razovinto_hand_full for a literal, or razovinto_too_few_on_hand for an
         ! operation; razovinto_several_left, razovinto_none_left. Then it runs, and the first item that fails is the
@@ -428,7 +432,7 @@ contains
         case (razovinto_base_below_two)
             text = 'base below 2'
         case (razovinto_overflowed_operand)
-            text = 'overflowed operand'
+            text = 'overflowed value where a number is needed'
         case (razovinto_quotient_too_large)
             text = 'signed quotient that doesn''t fit'
         case (razovinto_unknown_width)

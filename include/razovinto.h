@@ -55,7 +55,7 @@ static inline const char *razovinto_refusal_text(uint32_t refusal)
         "not refused",
         "divisor 0",
         "base below 2",
-        "overflowed operand",
+        "overflowed value where a number is needed",
         "signed quotient that doesn't fit",
         "width not 8, 16, 32 or 64",
         "lists that differ in length",
@@ -152,6 +152,12 @@ uint32_t razovinto_signed_remainder(int64_t left, int64_t right, int64_t *result
  *
  * A recipe is two lists, kinds and numbers in postfix order. A literal is kind 0 with its number; an operation has the
  * number 0, and takes the two values on hand that come last.
+ *
+ * A result above the largest number of the width is overflowed, and a recipe goes on with it. Overflowed times 0 is 0. A
+ * number by an overflowed right has the quotient 0 and the remainder itself; anything to the power of 0 is 1, and 0 or 1
+ * to an overflowed exponent is 0 or 1; a number's logarithm in an overflowed base is 0. All else with an overflowed
+ * operand is overflowed, but for an overflowed left of a quotient or a remainder and an overflowed argument of a
+ * logarithm, which are refused.
  */
 
 #define RAZOVINTO_LITERAL 0

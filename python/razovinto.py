@@ -126,7 +126,7 @@ _TEXTS = (
     "not refused",
     "divisor 0",
     "base below 2",
-    "overflowed operand",
+    "overflowed value where a number is needed",
     "signed quotient that doesn't fit",
     "width not 8, 16, 32 or 64",
     "lists that differ in length",
@@ -712,8 +712,12 @@ def run(width: int, recipe: Recipe, allowance: int) -> Run:
     Refused for its shape, in this order: 5 the width, 6 two lists that differ in length, 7 no items or above 256; item
     by item 8 the kind, then 9 too large and 11 the hand full for a literal, or 10 too few on hand for an operation;
     12 several values left, 13 none left. Then it runs, and the first item that fails is the answer: 3 an overflowed
-    operand, 1 a divisor 0, 2 a base below 2. 20, the allowance is spent: the exception's `run` is the state in which
-    the run was stopped.
+    left of a quotient or a remainder, or an overflowed argument of a logarithm; 1 a divisor 0, 2 a base below 2. 20, the
+    allowance is spent: the exception's `run` is the state in which the run was stopped.
+
+    With any other overflowed operand the recipe goes on. Overflowed times 0 is 0; a number by an overflowed right has
+    the quotient 0 and the remainder itself; anything to the power of 0 is 1, and 0 or 1 to an overflowed exponent is 0
+    or 1; a number's logarithm in an overflowed base is 0; and all else is overflowed.
     """
     width, allowance = _number("width", width), _number("allowance", allowance)
     kinds, numbers = _two_lists(recipe)

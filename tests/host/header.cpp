@@ -65,7 +65,7 @@ static bool levels()
 
 int main()
 {
-    if (std::strcmp(razovinto_refusal_text(RAZOVINTO_OVERFLOWED), "overflowed operand") != 0)
+    if (std::strcmp(razovinto_refusal_text(RAZOVINTO_OVERFLOWED), "overflowed value where a number is needed") != 0)
         return 1;
     return six() && answers() && blocks() && levels() ? 0 : 1;
 }

@@ -136,6 +136,7 @@ def product_edges():
 
 
 def every_operation_at_8():
+    """Every kind on every pair of values, overflowed ones too."""
     values = [*range(256), OVERFLOWED]
     return (Operation(8, kind, left, right) for kind in range(SUM, LOGARITHM + 1) for left in values for right in values)
 
@@ -233,6 +234,22 @@ SMALL_RUNS = (
     "10 0 logarithm",
     "1 5 logarithm",
 )
+# What is known with an overflowed operand, and what isn't, at 8 bits.
+MADE_OVERFLOWED = "255 1 sum"
+KNOWN_RUNS = (
+    "7 255 1 sum quotient",
+    "7 255 1 sum remainder",
+    "255 1 sum 7 quotient",
+    "255 1 sum 0 power",
+    "0 255 1 sum power",
+    "1 255 1 sum power",
+    "2 255 1 sum power",
+    "255 1 sum 1 power",
+    "255 1 sum 255 1 sum power",
+    "255 1 sum 7 logarithm",
+    "255 1 sum 0 logarithm",
+    "1 255 1 sum logarithm",
+)
 # Width and recipe: powers, logarithms and overflowed values within one another; the last is refused late.
 RICH_RUNS = (
     (8, "3 2 5 power 7 remainder power 2 200 logarithm 1 power product 255 255 product 0 product sum"),
@@ -251,6 +268,15 @@ def every_allowance(width, words):
     kinds, numbers = recipe(words)
     for allowance in (*range(total_steps(width, kinds, numbers) + 2), MOST):
         yield Run(width, allowance, kinds, numbers)
+
+
+def every_overflowed_pair_at_8():
+    """Every kind on every pair with an overflowed operand, as a recipe at every allowance."""
+    fitting = [str(number) for number in range(256)]
+    pairs = [*((left, MADE_OVERFLOWED) for left in fitting), *((MADE_OVERFLOWED, right) for right in fitting)]
+    for left, right in (*pairs, (MADE_OVERFLOWED, MADE_OVERFLOWED)):
+        for word in model.KIND_WORDS[SUM:]:
+            yield from every_allowance(8, f"{left} {right} {word}")
 
 
 def longest_runs(lengths=(1, 3, 5, 63, 255)):
@@ -323,15 +349,23 @@ def some_literal(dice, width):
     return some_number(dice, width)
 
 
-def some_kind(dice, most, left, right):
+def seen_answer(most, kind, left, right, known):
+    """What the maker of a recipe takes an operation to give. Without `known` kinds 3 to 6 count as refused wherever an
+    operand is overflowed: so the recipes that are recorded stay as they were before such answers were known."""
+    if not known and kind > PRODUCT and OVERFLOWED in (left, right):
+        return model.IS_OVERFLOWED, 0
+    return model.operation(most, kind, left, right)
+
+
+def some_kind(dice, most, left, right, known):
     """An operation, mostly one that is not refused; often a product where something overflowed."""
     kind = dice.pick((SUM, PRODUCT, QUOTIENT, 4, POWER, POWER, LOGARITHM, LOGARITHM))
-    if dice.chance(3) or model.refusal_of(most, kind, model.least(most, left), model.least(most, right)) == 0:
+    if dice.chance(3) or seen_answer(most, kind, left, right, known)[0] == 0:
         return kind
     return dice.pick((SUM, PRODUCT, PRODUCT))
 
 
-def some_recipe(dice, width, length):
+def some_recipe(dice, width, length, known=True):
     """A well-formed recipe of an odd length, built beside the hand that it leaves."""
     most, hand, kinds, numbers = limit(width), [], [], []
     deepest = dice.pick((3, 5, 8, 32))
@@ -339,9 +373,9 @@ def some_recipe(dice, width, length):
         must_work = len(hand) - 1 >= length - done or len(hand) >= deepest
         if len(hand) >= 2 and (must_work or dice.chance(45)):
             right, left = hand.pop(), hand.pop()
-            kind, number = some_kind(dice, most, left, right), 0
+            kind, number = some_kind(dice, most, left, right, known), 0
             # After a refused item the rest only has to be well formed.
-            hand.append(model.operation(most, kind, left, right)[1])
+            hand.append(seen_answer(most, kind, left, right, known)[1])
         else:
             kind, number = LITERAL, some_literal(dice, width)
             hand.append(number)
@@ -364,12 +398,12 @@ def some_allowance(dice, total):
     return dice.below(total + 2)
 
 
-def some_run(dice):
+def some_run(dice, known=True):
     way = dice.below(20)
     if way == 0:
         return bytes_as_recipe(dice)
     width = dice.pick(WIDTHS)
-    kinds, numbers = some_recipe(dice, width, some_length(dice))
+    kinds, numbers = some_recipe(dice, width, some_length(dice), known)
     if way <= 3:
         kinds, numbers = some_damage(dice, kinds, numbers)
         width = dice.pick(ODD_WIDTHS) if dice.chance(15) else width

@@ -27,8 +27,9 @@ RANDOM = (8000, 4000, 4000, 1200, 6000, 3000, 3000, 1000, 2500, 6000, 6000)
 def boundaries(dice):
     """All cases at the boundaries, and a few recipes at every allowance."""
     small = (cases.every_allowance(8, words) for words in cases.SMALL_RUNS)
+    known = (cases.every_allowance(8, words) for words in cases.KNOWN_RUNS)
     rich = (cases.every_allowance(*rich) for rich in cases.RICH_RUNS)
-    yield from chain(*small, *rich, *(all_allowances(dice) for _ in range(6)))
+    yield from chain(*small, *known, *rich, *(all_allowances(dice) for _ in range(6)))
     yield from chain(cases.longest_runs(), cases.deep_hands(), cases.long_recipes(), cases.known_widths())
     yield from cases.shape_faults()
     yield from chain(cases.operation_edges(), cases.every_signed_edge(), cases.fit_edges(), cases.plain_edges())
@@ -58,7 +59,7 @@ def made(dice):
     """Random cases and those at the boundaries, mixed; then all of 8 bits."""
     random_ones = (maker(dice) for maker, count in zip(cases.SOME, RANDOM) for _ in range(count))
     mixed = dice.shuffled([*random_ones, *boundaries(dice)])
-    return mixed, [*cases.every_operation_at_8(), *cases.every_signed_at_8()]
+    return mixed, [*cases.every_operation_at_8(), *cases.every_overflowed_pair_at_8(), *cases.every_signed_at_8()]
 
 
 def replayed(program, given):

@@ -1,14 +1,16 @@
 """The rules once more, in Python's unlimited whole numbers: checked values, recipes, fields, blocks and levels.
 
 This is the second program's own reading of the rules; it shares nothing with the crates. What is cheap to say in two
-ways is said in two ways here, and the two are compared on every case: a recipe's shape by a walk and by the list of all
-its faults, a run by single steps and by what it comes to, a block's layout by looking and by writing the block anew, a
-packing width by its rule and by counting, a field's blocks one by one and value by value, a level by its readings' bits
-and by the exact numbers that they stand for.
+ways is said in two ways here, and the two are compared on every case: an operation with an overflowed operand by its
+rule and by numbers that the operand stands for, a recipe's shape by a walk and by the list of all its faults, a run by
+single steps and by what it comes to, a block's layout by looking and by writing the block anew, a packing width by its
+rule and by counting, a field's blocks one by one and value by value, a level by its readings' bits and by the exact
+numbers that they stand for.
 Blocks that are written are also read back, searched, and written again.
 
 A checked value is a number, or OVERFLOWED. A refusal is its number; 0 is none.
 """
+from itertools import product
 from operator import mul
 from typing import NamedTuple
 
@@ -59,21 +61,50 @@ def logarithm(base, argument):
     return e
 
 
-def operation(most, kind, left, right):
-    """A refusal's number, or 0, and the checked value."""
+def operation_by_rules(most, kind, left, right):
+    """A refusal's number, or 0, and the checked value, by what is said of overflowed operands."""
     if kind == SUM:
         return 0, checked(most, least(most, left) + least(most, right))
     if kind == PRODUCT:
         return 0, checked(most, least(most, left) * least(most, right))
-    if left is OVERFLOWED or right is OVERFLOWED:
-        return IS_OVERFLOWED, 0
     if kind == POWER:
-        return 0, power(most, left, right)
+        return 0, checked_power(most, left, right)
+    if (right if kind == LOGARITHM else left) is OVERFLOWED:
+        return IS_OVERFLOWED, 0
     if kind == LOGARITHM:
+        if left is OVERFLOWED:
+            return 0, 0
         return (0, logarithm(left, right)) if left >= 2 else (BASE_BELOW_TWO, 0)
+    if right is OVERFLOWED:
+        return 0, 0 if kind == QUOTIENT else left
     if right == 0:
         return DIVISOR_ZERO, 0
     return 0, left // right if kind == QUOTIENT else left % right
+
+
+def checked_power(most, base, exponent):
+    """A power of checked values: it is never refused."""
+    if exponent == 0:
+        return 1
+    if base is OVERFLOWED or (exponent is OVERFLOWED and base > 1):
+        return OVERFLOWED
+    return base if exponent is OVERFLOWED else power(most, base, exponent)
+
+
+def stands_for(most, value):
+    """The number that a checked value stands for, or some of those."""
+    return (most + 1, most + 2, 2 * most + 1, 3 * most + 7, (most + 1) ** 2) if value is OVERFLOWED else (value,)
+
+
+def operation(most, kind, left, right):
+    """The same; with an overflowed operand it must be what each number gives that the operands stand for."""
+    answer = operation_by_rules(most, kind, left, right)
+    if left is OVERFLOWED or right is OVERFLOWED:
+        for some in product(stands_for(most, left), stands_for(most, right)):
+            code = refusal_of(most, kind, *some)
+            given = (code, 0) if code else (0, checked(most, worth(kind, *some, CEILING)))
+            assert answer == given, f"the {KIND_WORDS[kind]} of {some} differs"
+    return answer
 
 
 def signed(width, remainder, a, b):
@@ -210,7 +241,7 @@ class Machine:
         self.done += 1
 
     def times(self, left, right):
-        return operation(self.most, PRODUCT, left, right)[1]
+        return operation_by_rules(self.most, PRODUCT, left, right)[1]
 
     def step(self):
         self.steps += 1
@@ -227,13 +258,14 @@ class Machine:
             self.put(number)
             return
         right, left = self.hand.pop(), self.hand.pop()
-        # Here a power or a logarithm is only asked for its refusal; its value comes by further steps.
+        # A power or a logarithm of numbers that fit is only asked for its refusal; its value comes by further steps.
         self.code, value = operation(self.most, kind, left, right)
+        both_fit = left is not OVERFLOWED and right is not OVERFLOWED
         if self.code:
             return
-        if kind == POWER:
+        if kind == POWER and both_fit:
             self.hold_power(1, left, right)
-        elif kind == LOGARITHM:
+        elif kind == LOGARITHM and both_fit:
             self.hold_logarithm(left, right, 0)
         else:
             self.put(value)
@@ -269,18 +301,16 @@ def run_by_steps(most, kinds, numbers, allowance):
 
 def refusal_of(most, kind, left, right):
     """The refusal of an operation on whole numbers, told which numbers fit."""
-    if kind <= PRODUCT:
-        return 0
-    if left > most or right > most:
-        return IS_OVERFLOWED
-    if kind in (QUOTIENT, REMAINDER) and right == 0:
-        return DIVISOR_ZERO
-    return BASE_BELOW_TWO if kind == LOGARITHM and left < 2 else 0
+    if kind in (QUOTIENT, REMAINDER):
+        return IS_OVERFLOWED if left > most else DIVISOR_ZERO if right == 0 else 0
+    if kind == LOGARITHM:
+        return IS_OVERFLOWED if right > most else BASE_BELOW_TWO if left < 2 else 0
+    return 0
 
 
-# A whole number at least this large is written as this one: far above every width, and min(n, CEILING) of a sum, a
-# product or a power can be had from the operands so written. tests/second/selftest.py also runs with a ceiling that no
-# recipe of 8 bits reaches.
+# A whole number at least this large is written as this one: far above every width. min(n, CEILING) of a sum, a product
+# or a power can be had from the operands so written; and a divisor or a base of a logarithm so written is above every
+# number that fits. tests/second/selftest.py also runs with a ceiling far above this one.
 CEILING = 2**160
 
 
@@ -309,8 +339,10 @@ def worth(kind, left, right, ceiling):
     return min(number, ceiling)
 
 
-def further_steps(kind, left, right):
-    """The steps of an operation after its first: the exponent's binary digits, or the logarithm."""
+def further_steps(most, kind, left, right):
+    """The steps of an operation after its first: the exponent's binary digits, or the logarithm, where both fit."""
+    if left > most or right > most:
+        return 0
     if kind == POWER:
         return right.bit_length()
     return logarithm(left, right) if kind == LOGARITHM else 0
@@ -339,7 +371,7 @@ def run_by_meaning(most, kinds, numbers, allowance, ceiling=CEILING):
         code = refusal_of(most, kind, left, right)
         if code:
             return Ran(code, place, 0, spent + 1)
-        further = further_steps(kind, left, right)
+        further = further_steps(most, kind, left, right)
         if spent + 1 + further > allowance:
             phase = phase_after(most, kind, left, right, allowance - spent - 1, ceiling)
             return stopped(most, allowance, place, phase, hand)

@@ -4,6 +4,7 @@ import math
 import struct
 import unittest
 from fractions import Fraction
+from itertools import product
 
 import cases
 import model
@@ -25,13 +26,29 @@ SMALL_ANSWERS = (
     (0, 3),
     ((2, 2), 3),
 )
-# No recipe of 8 bits reaches this: it has at most 128 literals, and no power above 255 ** 255.
+# Answer and steps of each recipe of cases.KNOWN_RUNS.
+KNOWN_ANSWERS = (
+    (0, 5),
+    (7, 5),
+    ((3, 4), 5),
+    (1, 5),
+    (0, 5),
+    (1, 5),
+    (OVERFLOWED, 5),
+    (OVERFLOWED, 5),
+    (OVERFLOWED, 7),
+    (0, 5),
+    (0, 5),
+    ((3, 4), 5),
+)
+# A ceiling far above the model's own.
 FAR = 2**300000
 
 
 class Tables(unittest.TestCase):
     def test_small_runs(self):
-        for words, (answer, steps) in zip(cases.SMALL_RUNS, SMALL_ANSWERS):
+        runs, answers = cases.SMALL_RUNS + cases.KNOWN_RUNS, SMALL_ANSWERS + KNOWN_ANSWERS
+        for words, (answer, steps) in zip(runs, answers, strict=True):
             ran = model.run(8, *cases.recipe(words), 100)
             given = (ran.code, ran.place) if ran.code else ran.value
             self.assertEqual((given, ran.steps), (answer, steps), words)
@@ -166,10 +183,30 @@ class Meanings(unittest.TestCase):
                 if case.kind > model.PRODUCT:
                     continue
                 value = model.operation(most, case.kind, case.left, case.right)[1]
-                for left in stands_for(most, case.left):
-                    for right in stands_for(most, case.right):
+                for left in model.stands_for(most, case.left):
+                    for right in model.stands_for(most, case.right):
                         whole = left + right if case.kind == model.SUM else left * right
                         self.assertEqual(model.checked(most, whole), value, case.words())
+
+    def test_refused_though_certain(self):
+        """Where 3 is given at 8 bits although every number that the operands stand for has one answer."""
+        certain = {}
+        for case in cases.every_operation_at_8():
+            if model.operation_by_rules(255, case.kind, case.left, case.right)[0] == model.IS_OVERFLOWED:
+                answers = {certainly(case.kind, *some) for some in product(many(case.left), many(case.right))}
+                if len(answers) == 1:
+                    certain[model.KIND_WORDS[case.kind], case.left, case.right] = answers.pop()
+        self.assertEqual(
+            certain,
+            {
+                ("quotient", OVERFLOWED, 0): (model.DIVISOR_ZERO, 0),
+                ("quotient", OVERFLOWED, 1): (0, OVERFLOWED),
+                ("remainder", OVERFLOWED, 0): (model.DIVISOR_ZERO, 0),
+                ("remainder", OVERFLOWED, 1): (0, 0),
+                ("logarithm", 0, OVERFLOWED): (model.BASE_BELOW_TWO, 0),
+                ("logarithm", 1, OVERFLOWED): (model.BASE_BELOW_TWO, 0),
+            },
+        )
 
     def test_powers_and_logarithms_at_8_bits(self):
         for base in range(256):
@@ -180,7 +217,7 @@ class Meanings(unittest.TestCase):
                     self.assertTrue(other < base**e * base and (base**e <= other or other == e == 0))
 
     def test_runs_over_true_numbers_at_8_bits(self):
-        """A run with an allowance of any size, with no ceiling in reach."""
+        """A run with an allowance of any size, with a ceiling of 300,000 binary digits."""
         dice = cases.Dice(8)
         for _ in range(1500):
             kinds, numbers = cases.some_recipe(dice, 8, cases.some_length(dice))
@@ -223,7 +260,7 @@ class Makers(unittest.TestCase):
     def test_every_refusal_is_met(self):
         """Each number but 13, which no list of items can get: an operation leaves a value on the hand."""
         dice = cases.Dice(1)
-        some = [maker(dice) for maker in cases.SOME for _ in range(1500) if maker is not cases.some_fit]
+        some = [maker(dice) for maker in cases.SOME for _ in range(2500) if maker is not cases.some_fit]
         met = {int(line.split()[0]) for line in rows.lines(some)}
         self.assertEqual(met, set(range(24)) - {13})
 
@@ -242,8 +279,15 @@ def blocks_of(run):
     return [run[start : start + model.BLOCK] for start in range(0, len(run), model.BLOCK)]
 
 
-def stands_for(most, value):
-    return (most + 1, most + 2, 2 * most + 1, 3 * most + 7, (most + 1) ** 2) if value is OVERFLOWED else (value,)
+def many(value):
+    """The number that a checked value of 8 bits stands for, or many of those."""
+    return (*range(256, 260), 511, 512, 2**16, 2**24) if value is OVERFLOWED else (value,)
+
+
+def certainly(kind, left, right):
+    """What an operation on whole numbers answers where no number is too large to be known."""
+    code = model.refusal_of(max(left, right, 1), kind, left, right)
+    return (code, 0) if code else (0, model.checked(255, model.worth(kind, left, right, FAR)))
 
 
 if __name__ == "__main__":

@@ -1,9 +1,9 @@
 -- Quotient, remainder, power and logarithm of the values of two numbers: what is given is the value of what the numbers
 -- come to. So an answer with an overflowed operand is the one for every number that the operand stands for.
 -- Assumes nothing.
-use mathlib.Core.Path.{_≡_, refl, ap, ap₂, sym, _∙_, subst}
+use mathlib.Core.Path.{_≡_, ap, ap₂, sym, _∙_, subst}
 use mathlib.Core.Bool.{cond}
-use Prim.Native.Nat.{ℕ, zero, suc, _*_, _/_, _%_, _^_, _≤_, _<_, zero-le}
+use Prim.Native.Nat.{ℕ, zero, suc, _*_, _/_, _%_, _^_, _≤_, _<_}
 use native.Mathlib.Nat.{pow-zero, pow-suc, pow-le-pow-right, one-mul, mul-zero, div-le-self, mod-le, div-eq-of-lt, mod-eq-of-lt}
 use native.Mathlib.Decide.{decLe}
 use native.Mathlib.Omega.{arith}
@@ -13,7 +13,7 @@ use Rattle.whole.proofs.Naturals.{log-of-small}
 use Rattle.checked.specs.declared.types.Checked64.the-variants.{Fits, Overflowed}
 use Rattle.checked.specs.Value.{Value, Stands, FirstFits, checkedOf, least, raisedOf}
 use Rattle.checked.specs.Paper.{Paper, given, refused, valueIn, dividedBy, leftBy, logOf}
-use Rattle.checked.specs.Paper.{asking, quotientOf, remainderOf, powerOf, logarithmOf}
+use Rattle.checked.specs.Paper.{asking, quotientOf, remainderOf, logarithmOf}
 use Rattle.checked.proofs.Limit.{fits, over}
 use Rattle.checked.proofs.Powers.{absorb-power}
 use Rattle.checked.proofs.Logarithms.{below-power, log-at-most}

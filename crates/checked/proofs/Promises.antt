@@ -7,8 +7,7 @@ use mathlib.Core.Logic.{_↔_}
 use Prim.Native.Nat.{ℕ, suc, _+_, _-_, _*_, _/_, _%_, _^_, _≤_, _<_}
 use native.Mathlib.Nat.{div-add-mod', mod-lt, div-lt-iff-lt-mul, pow-zero, pow-succ'}
 use native.Mathlib.Omega.{arith}
-use borrow.Author.Tests.{eq-eqb, ne-eqb, lt-ltb, le-ltb}
-use lib.Dec.{eqb, ltb}
+use borrow.Author.Tests.{ne-eqb, lt-ltb, le-ltb}
 use lib.Pow.{pow-pos}
 use Rattle.whole.specs.logarithm.{log-of}
 use Rattle.whole.proofs.Naturals.{log-of-zero, log-of-floor, log-of-largest}

@@ -293,7 +293,7 @@ pub fn quotient(a: Checked64, b: Checked64) -> Answer64
     }
 }
 
-// A number by any number above its limit goes no time.
+// A number by any that is above the limit: that goes into it 0 times.
 fn quotient_by(l: u64, b: Checked64) -> Answer64
     ensures { λ r. ⌜ paper r ≡ quotientOf (Fits l) b ⌝ }
 {
@@ -313,7 +313,7 @@ pub fn remainder(a: Checked64, b: Checked64) -> Answer64
     }
 }
 
-// A number by any number above its limit is left whole.
+// A number by any that is above the limit is left whole.
 fn remainder_by(l: u64, b: Checked64) -> Answer64
     ensures { λ r. ⌜ paper r ≡ remainderOf (Fits l) b ⌝ }
 {
@@ -327,9 +327,16 @@ fn remainder_by(l: u64, b: Checked64) -> Answer64
 pub fn power(limit: u64, a: Checked64, b: Checked64) -> Answer64
     ensures { λ r. ⌜ paper r ≡ powerOf limit a b ⌝ }
 {
+    Answer64::Value(pow_checked(limit, a, b))
+}
+
+// The same as a value.
+pub fn pow_checked(limit: u64, a: Checked64, b: Checked64) -> Checked64
+    ensures { λ r. ⌜ r ≡ raisedOf limit a b ⌝ }
+{
     match a {
-        Checked64::Fits(l) => Answer64::Value(power_by(limit, l, b)),
-        Checked64::Overflowed => Answer64::Value(overflowed_by(limit, b)),
+        Checked64::Fits(l) => power_by(limit, l, b),
+        Checked64::Overflowed => overflowed_by(limit, b),
     }
 }
 
@@ -381,7 +388,7 @@ pub fn logarithm(a: Checked64, b: Checked64) -> Answer64
     }
 }
 
-// A number can't be divided by a base above its limit.
+// A number has the logarithm 0 in any base that is above the limit.
 fn logarithm_of(a: Checked64, n: u64) -> Answer64
     ensures { λ r. ⌜ paper r ≡ logarithmOf a (Fits n) ⌝ }
 {

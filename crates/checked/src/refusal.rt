@@ -7,7 +7,8 @@ pub enum Refusal {
     DivisorZero,
     // base below 2, both fit
     BaseBelowTwo,
-    // overflowed operand, place or value
+    // overflowed left of a quotient or a remainder, argument of a logarithm, place of a field, or value that is asked
+    // for its plain number
     Overflowed,
     // signed quotient doesn't fit
     QuotientTooLarge,

@@ -2,27 +2,26 @@
 -- Assumes nothing.
 use mathlib.Core.Path.{_≡_, refl, ap, ap₂, sym, _∙_, subst}
 use mathlib.Core.Logic.{inl, inr}
-use mathlib.Core.Bool.{Bool, true, false, cond}
-use Prim.Native.Nat.{ℕ, suc, _+_, _/_, _%_, _≤_, _<_}
+use mathlib.Core.Bool.{Bool, cond}
+use Prim.Native.Nat.{ℕ, _+_, _/_, _%_, _≤_, _<_}
 use native.Mathlib.Nat.{le-div-iff-mul-le, div-add-mod, mul-le-mul-left}
 use native.Mathlib.Omega.{arith}
 use borrow.Author.Tests.{eq-eqb, ne-eqb, le-leb, lt-leb, lt-ltb, le-ltb}
 use lib.Dec.{eqb}
 use Rattle.whole.specs.logarithm.{log-of}
-use Rattle.checked.specs.declared.refusal.Refusal.{Refusal}
 use Rattle.checked.specs.declared.types.Both.{Both}
 use Rattle.checked.specs.declared.types.Both.the-variants as both
 use Rattle.checked.specs.declared.types.Checked64.the-variants.{Fits, Overflowed}
 use Rattle.checked.specs.Value.{Value, checkedOf, sumOf, productOf, raisedOf, bothOf, OneOverflowed}
-use Rattle.checked.specs.Paper.{Paper, given, refused, numberOf, quotientOf, remainderOf, powerOf, logarithmOf}
+use Rattle.checked.specs.Paper.{Paper, given, refused, powerOf}
 use Rattle.checked.proofs.BothFit.{both-are}
-use Rattle.checked.proofs.Unique.{not-zero}
+use Rattle.checked.proofs.Refused.{not-overflowed}
 use Rattle.shape.specs.Items.{Operation, sum, product, quotient, remainder, power, logarithm, operation, kindOf}
 use Rattle.shape.proofs.Codes.{kind-at, kind-unknown}
 use Rattle.steps.specs.declared.types.Phase.the-variants.{InPower, InLogarithm}
 use Rattle.steps.specs.Steps.{Outcome, value, within, fails, powering, powerStep, dividing}
 use Rattle.steps.specs.Steps.{atOnce, unlessRefused, begun}
-use Rattle.steps.proofs.Apart.{power-apart, logarithm-apart}
+use Rattle.steps.proofs.Apart.{power-apart}
 use Rattle.operation.specs.Work.{begunAs, SoundLogarithm}
 
 -- ---- within a power and a logarithm
@@ -88,17 +87,12 @@ given-goes (Fits n) w = refl
 given-goes Overflowed w = refl
 
 -- an answer of checked values had in one step
-abbrev pub told : Paper → Outcome
+abbrev told : Paper → Outcome
 told p = unlessRefused p (atOnce p)
 
-pub told-value : (v : Value) → value v ≡ told (given v)
+told-value : (v : Value) → value v ≡ told (given v)
 told-value (Fits n) = refl
 told-value Overflowed = refl
-
-pub told-refused : (r : Refusal) → fails (numberOf r) ≡ told (refused (numberOf r))
-told-refused r =
-    let v = atOnce (refused (numberOf r)) in
-    sym (ap {B = Outcome} (λ t. elim t [ true ↦ v | false ↦ fails (numberOf r) ]) (not-zero r))
 
 -- a quotient and a remainder, by the test of the divisor
 told-divided
@@ -147,26 +141,52 @@ module _ (M : ℕ) where
   unfolding begun
   small-base l r h = sym (ap (logarithmBegun l r) (lt-ltb l 2 h))
 
-  -- with an overflowed operand a power and a logarithm, and always a quotient and a remainder, are answered at once
-  pub quotient-at-once : (a b : Value) → told (quotientOf a b) ≡ begun M quotient a b
-  unfolding begun
-  quotient-at-once a b = refl
+-- ---- with an overflowed operand
 
-  pub remainder-at-once
-      : (a b : Value) → told (remainderOf a b) ≡ begun M remainder a b
-  unfolding begun
-  remainder-at-once a b = refl
+-- where one fits, the other is the overflowed one
+pub other-overflowed : (a b : Value) (l : ℕ) → OneOverflowed a b → a ≡ Fits l → b ≡ Overflowed
+other-overflowed a b l (inl e) f = absurd (not-overflowed l (sym f ∙ e))
+other-overflowed a b l (inr e) f = e
 
-  pub power-at-once
-      : (a b : Value) → OneOverflowed a b → told (powerOf M a b) ≡ begun M power a b
-  unfolding begun
-  power-at-once a b o = ap (unlessRefused (powerOf M a b)) (sym (power-apart M a b o))
+first-overflowed : (a b : Value) (r : ℕ) → OneOverflowed a b → b ≡ Fits r → a ≡ Overflowed
+first-overflowed a b r (inl e) f = e
+first-overflowed a b r (inr e) f = absurd (not-overflowed r (sym f ∙ e))
 
-  pub logarithm-at-once
-      : (a b : Value) → OneOverflowed a b →
-      told (logarithmOf a b) ≡ begun M logarithm a b
+module _ (M : ℕ) (a b : Value) where
+  -- what has to fit is asked for first
+  pub quotient-asks : a ≡ Overflowed → fails 3 ≡ begun M quotient a b
   unfolding begun
-  logarithm-at-once a b o = ap (unlessRefused (logarithmOf a b)) (sym (logarithm-apart M a b o))
+  quotient-asks e = ap (λ v. begun M quotient v b) (sym e)
+
+  pub remainder-asks : a ≡ Overflowed → fails 3 ≡ begun M remainder a b
+  unfolding begun
+  remainder-asks e = ap (λ v. begun M remainder v b) (sym e)
+
+  pub logarithm-asks : b ≡ Overflowed → fails 3 ≡ begun M logarithm a b
+  unfolding begun
+  logarithm-asks e = asks a ∙ ap (begun M logarithm a) (sym e)
+    where
+      asks : (a : Value) → fails 3 ≡ begun M logarithm a Overflowed
+      asks (Fits l) = refl
+      asks Overflowed = refl
+
+  -- and where it fits the answer is known
+  module _ (o : OneOverflowed a b) where
+    pub quotient-known : (l : ℕ) → a ≡ Fits l → value (Fits 0) ≡ begun M quotient a b
+    unfolding begun
+    quotient-known l e = ap₂ (begun M quotient) (sym e) (sym (other-overflowed a b l o e))
+
+    pub remainder-known : (l : ℕ) → a ≡ Fits l → value (Fits l) ≡ begun M remainder a b
+    unfolding begun
+    remainder-known l e = ap₂ (begun M remainder) (sym e) (sym (other-overflowed a b l o e))
+
+    pub logarithm-known : (r : ℕ) → b ≡ Fits r → value (Fits 0) ≡ begun M logarithm a b
+    unfolding begun
+    logarithm-known r e = ap₂ (begun M logarithm) (sym (first-overflowed a b r o e)) (sym e)
+
+    pub power-at-once : value (raisedOf M a b) ≡ begun M power a b
+    unfolding begun
+    power-at-once = told-value (raisedOf M a b) ∙ ap (unlessRefused (powerOf M a b)) (sym (power-apart M a b o))
 
 -- ---- by the kind's code
 

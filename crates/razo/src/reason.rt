@@ -11,7 +11,7 @@ fn put_phrase(line: &mut [u8], at: usize, number: u32) -> usize {
     let phrases = b"\
 divisor 0
 base below 2
-overflowed operand
+overflowed value where a number is needed
 signed quotient that doesn't fit
 width not 8, 16, 32 or 64
 lists that differ in length

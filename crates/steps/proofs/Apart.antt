@@ -1,7 +1,6 @@
 -- A power and a logarithm with an overflowed operand enter no phase: they have the answer of checked values at once.
 -- Assumes nothing.
 use mathlib.Core.Path.{_≡_, refl}
-use mathlib.Core.Logic.{inl, inr}
 use Prim.Native.Nat.{ℕ}
 use Rattle.checked.specs.declared.types.Checked64.the-variants.{Fits, Overflowed}
 use Rattle.checked.specs.Value.{Value, OneOverflowed}

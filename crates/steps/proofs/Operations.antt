@@ -11,7 +11,7 @@ use native.Mathlib.Omega.{arith}
 use lib.Dec.{eqb}
 use borrow.Author.Tests.{eqb-true}
 use Rattle.whole.specs.logarithm.{log-of}
-use Rattle.checked.specs.declared.types.Checked64.the-variants.{Fits, Overflowed}
+use Rattle.checked.specs.declared.types.Checked64.the-variants.{Fits}
 use Rattle.checked.specs.Value.{Value, checkedOf, OneOverflowed}
 use Rattle.checked.specs.Paper.{Paper, valueIn}
 use Rattle.checked.proofs.Limit.{fits, over, settled-at}

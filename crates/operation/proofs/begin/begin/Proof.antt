@@ -36,11 +36,17 @@ returns-4 c =
     let g = c .before .before .before .before .args in
     unknown-begins (g .limit) (g .left) (g .right) (g .kind) (c .if4 .taken)
 
-begin-both-requires : tie.Need-begin-both-requires
-begin-both-requires c κs = search needs
+begin-divide-requires : tie.Need-begin-divide-requires
+begin-divide-requires c κs = search needs
+
+begin-raise-requires : tie.Need-begin-raise-requires
+begin-raise-requires c κs = search needs
 
 returns-5 : tie.Need-returns-5
-returns-5 c = c .begin-both .ensures
+returns-5 c = c .begin-divide .ensures
+
+returns-6 : tie.Need-returns-6
+returns-6 c = c .begin-raise .ensures
 
 pub begin-spec : {M : Type 1} → statement M
 begin-spec =
@@ -52,5 +58,7 @@ begin-spec =
     returns-2
     returns-3
     returns-4
-    begin-both-requires
-    returns-5)
+    begin-divide-requires
+    returns-5
+    begin-raise-requires
+    returns-6)

@@ -1,11 +1,11 @@
--- `begin::begin_both` meets its contract.
+-- `begin::begin_raise` meets its contract.
 -- Assumes nothing.
 use mathlib.Core.Path.{_∙_, sym}
 use borrow.Author.Needs.{needs}
 use Rattle.checked.proofs.Unique.{both-is}
 use Rattle.operation.proofs.Outcomes.{fitting-begins, one-overflowed}
-use Rattle.operation.proofs.begin.begin_both.Statement.{statement}
-use Rattle.operation.proofs.begin.begin_both.Tie as tie
+use Rattle.operation.proofs.begin.begin_raise.Statement.{statement}
+use Rattle.operation.proofs.begin.begin_raise.Tie as tie
 
 both-requires : tie.Need-both-requires
 both-requires c κs = search needs
@@ -13,14 +13,14 @@ both-requires c κs = search needs
 enum-known-l : tie.Need-enum-known-l
 enum-known-l c = search needs
 
-begin-fitting-requires : tie.Need-begin-fitting-requires
-begin-fitting-requires c κs = search needs
+raise-fitting-requires : tie.Need-raise-fitting-requires
+raise-fitting-requires c κs = search needs
 
 enum-told : tie.Need-enum-told
 enum-told c = search needs
 
-begin-apart-requires : tie.Need-begin-apart-requires
-begin-apart-requires c κs =
+raise-apart-requires : tie.Need-raise-apart-requires
+raise-apart-requires c κs =
     let s = c .before .before .before in
     let g = s .args in
     let told = both-is (g .left) (g .right) (c .before .before .both .ensures) in
@@ -31,12 +31,12 @@ returns c =
     let g = c .before .before .before .before .before .args in
     let v = c .before .before .l .given in
     let fit = sym (both-is (g .left) (g .right) (c .before .before .before .before .both .ensures)) ∙ v .1 in
-    fitting-begins (g .limit) (g .left) (g .right) (g .kind) (v .0 .0) (v .0 .1 .0) fit (c .begin-fitting .ensures)
+    fitting-begins (g .limit) (g .left) (g .right) (g .kind) (v .0 .0) (v .0 .1 .0) fit (c .raise-fitting .ensures)
 
 returns-2 : tie.Need-returns-2
-returns-2 c = c .begin-apart .ensures
+returns-2 c = c .raise-apart .ensures
 
-pub begin-both-spec : {M : Type 1} → statement M
-begin-both-spec =
+pub begin-raise-spec : {M : Type 1} → statement M
+begin-raise-spec =
     tie.close
-    (tie.spec both-requires enum-known-l begin-fitting-requires enum-told begin-apart-requires returns returns-2)
+    (tie.spec both-requires enum-known-l raise-fitting-requires enum-told raise-apart-requires returns returns-2)
