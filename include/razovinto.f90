@@ -26,11 +26,11 @@ module razovinto
         razovinto_refusal_text
 
     character(len=*), parameter, public :: &
-        razovinto_version = '4.3.0'
+        razovinto_version = '4.4.0'
     integer, parameter, public :: &
         razovinto_version_major = 4
     integer, parameter, public :: &
-        razovinto_version_minor = 3
+        razovinto_version_minor = 4
     integer, parameter, public :: &
         razovinto_version_patch = 0
 

@@ -13,9 +13,9 @@
 #include <stddef.h>
 #include <stdint.h>
 
-#define RAZOVINTO_VERSION "4.3.0"
+#define RAZOVINTO_VERSION "4.4.0"
 #define RAZOVINTO_VERSION_MAJOR 4
-#define RAZOVINTO_VERSION_MINOR 3
+#define RAZOVINTO_VERSION_MINOR 4
 #define RAZOVINTO_VERSION_PATCH 0
 
 /* The refusals. Not every one has an entry here that gives it yet. */

@@ -38,7 +38,7 @@ import sys
 from array import array
 from typing import Any, Iterable, List, NamedTuple, Optional, Sequence, Tuple, Union
 
-__version__ = "4.3.0"
+__version__ = "4.4.0"
 
 __all__ = [
     "BLOCK_SIZE", "BLOCK_VALUES", "Block", "Extent", "Field", "Found", "KINDS", "OVERFLOWED", "Overflowed", "PLACES",

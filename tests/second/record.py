@@ -4,6 +4,7 @@
 With --check nothing is written: the two files must be what would be written. The same cases come each time.
 """
 import sys
+from functools import partial
 from itertools import chain
 from pathlib import Path
 
@@ -18,6 +19,8 @@ RANDOM = (700, 300, 250, 60, 300, 150, 150, 40)
 # A row that came later has dice of its own and stands behind, so that the cases before it stay as they are.
 WRITE_SEED, RANDOM_WRITES = 20261116, 12
 LEVEL_SEED, RANDOM_LEVEL_SCANS, RANDOM_TURNS = 20261117, 80, 60
+# The random recipes of the first row were made when an overflowed operand had no known answer, and are made so still.
+FIRST_RUN = partial(cases.some_run, known=False)
 
 
 def tables():
@@ -101,11 +104,20 @@ def levels(dice):
     yield from (cases.some_turn(dice) for _ in range(RANDOM_TURNS))
 
 
+def known():
+    """What is known with an overflowed operand: with one step less than it takes, and with enough."""
+    for words in cases.KNOWN_RUNS:
+        recipe = cases.recipe(words)
+        steps = cases.total_steps(8, *recipe)
+        yield from (rows.Run(8, allowance, *recipe) for allowance in (steps - 1, steps))
+
+
 def recorded():
     dice = cases.Dice(SEED)
-    random_ones = [maker(dice) for maker, count in zip(cases.SOME, RANDOM) for _ in range(count)]
+    makers = (FIRST_RUN, *cases.SOME[1:])
+    random_ones = [maker(dice) for maker, count in zip(makers, RANDOM) for _ in range(count)]
     first_rows = [*tables(), *boundaries(dice), *dice.shuffled(random_ones)]
-    return [*first_rows, *writes(cases.Dice(WRITE_SEED)), *levels(cases.Dice(LEVEL_SEED))]
+    return [*first_rows, *writes(cases.Dice(WRITE_SEED)), *levels(cases.Dice(LEVEL_SEED)), *known()]
 
 
 def main():

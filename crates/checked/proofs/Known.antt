@@ -4,7 +4,8 @@
 use mathlib.Core.Path.{_≡_, ap, ap₂, sym, _∙_, subst}
 use mathlib.Core.Bool.{cond}
 use Prim.Native.Nat.{ℕ, zero, suc, _*_, _/_, _%_, _^_, _≤_, _<_}
-use native.Mathlib.Nat.{pow-zero, pow-suc, pow-le-pow-right, one-mul, mul-zero, div-le-self, mod-le, div-eq-of-lt, mod-eq-of-lt}
+use native.Mathlib.Nat.{pow-zero, pow-suc, pow-le-pow-right, one-mul, mul-zero}
+use native.Mathlib.Nat.{div-le-self, mod-le, div-eq-of-lt, mod-eq-of-lt}
 use native.Mathlib.Decide.{decLe}
 use native.Mathlib.Omega.{arith}
 use borrow.Author.Tests.{ne-eqb, le-ltb}

@@ -139,7 +139,9 @@ power-never-refused M a b = refusals.given-code (raisedOf M a b)
 -- 3 comes whatever the other operand is, so before 1 and 2
 pub overflowed-refused
     : (b : Value) →
-    (quotientOf Overflowed b ≡ refused 3) × (remainderOf Overflowed b ≡ refused 3) × (logarithmOf b Overflowed ≡ refused 3)
+    (quotientOf Overflowed b ≡ refused 3)
+    × (remainderOf Overflowed b ≡ refused 3)
+    × (logarithmOf b Overflowed ≡ refused 3)
 overflowed-refused b = (refl, refl, refl)
 
 -- where both fit, a divisor 0 is refused with 1 and a base below 2 with 2
@@ -235,8 +237,8 @@ module _ (M : ℕ) (a b : Value) (l r : ℕ) (p : Stands M a l) (q : Stands M b 
 
 -- and a power is the one value that does
 pub power-is-the-one
-    : (M : ℕ) (a b c : Value) → Within M a → Within M b → ((m n : ℕ) → Stands M a m → Stands M b n → Stands M c (m ^ n)) →
-    c ≡ raisedOf M a b
+    : (M : ℕ) (a b c : Value) → Within M a → Within M b →
+    ((m n : ℕ) → Stands M a m → Stands M b n → Stands M c (m ^ n)) → c ≡ raisedOf M a b
 power-is-the-one M = the-one M _^_
 
 -- ---- the logarithm itself

@@ -20,7 +20,7 @@ use Rattle.checked.specs.declared.types.Option64.the-variants as o64
 use Rattle.checked.specs.declared.types.Both.{Both}
 use Rattle.checked.specs.declared.types.Both.the-variants as both
 use Rattle.checked.specs.Value.{Value, option, bothOf}
-use Rattle.checked.specs.Paper.{Paper, paper, plain, numberOf, valueIn}
+use Rattle.checked.specs.Paper.{paper, plain, numberOf, valueIn}
 use Rattle.checked.specs.Pair.{Pair, pair, pairOf}
 use Rattle.checked.proofs.Refused.{pair-of-both}
 

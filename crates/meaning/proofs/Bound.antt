@@ -39,8 +39,9 @@ further-at-most W remainder l r w e = zero-le
 further-at-most W power l r w e =
     counted-at-most W l r (digits r) (λ b. digits-at-most W r (lt-of-le-ones W (b .1)))
 further-at-most W logarithm l r w e =
+    let base = passed (limitOf W) logarithm l r e .1 in
     counted-at-most W l r (log-of l r)
-    (λ b. omega (arith, log-below-width l r W (passed (limitOf W) logarithm l r e .1 (b .0)) w (lt-of-le-ones W (b .1))))
+    (λ b. omega (arith, log-below-width l r W (base (b .0)) w (lt-of-le-ones W (b .1))))
 
 -- with an operand above the limit it takes none
 pub nothing-further

@@ -9,7 +9,7 @@ use borrow.Author.Tests.{eqb-true, eq-eqb, lt-ltb}
 use Rattle.whole.specs.logarithm.{log-of}
 use Rattle.checked.specs.declared.types.Checked64.the-variants.{Fits}
 use Rattle.checked.specs.Value.{Value, Stands, checkedOf}
-use Rattle.checked.specs.Paper.{given, refused, valueIn, quotientOf, remainderOf, logarithmOf}
+use Rattle.checked.specs.Paper.{Paper, given, refused, valueIn, quotientOf, remainderOf, logarithmOf}
 use Rattle.checked.proofs.Limit.{fits, over}
 use Rattle.checked.proofs.Known.{quotient-of-values, remainder-of-values, power-of-values, logarithm-of-values}
 use Rattle.checked.proofs.Refused.{given-code, value-given}
@@ -29,10 +29,13 @@ answer-code c v = by-test (eqb c 0) refl
     by-test false e = refl
 
 module _ (M l r : ℕ) where
+  -- what the values of l and r answer
+  abbrev onValues : Operation → Paper
+  onValues o = answerOn M o (checkedOf M l) (checkedOf M r)
+
   -- ---- row by row
 
-  passes-same
-      : (o : Operation) → Passes M o l r → given (checkedOf M (worth o l r)) ≡ answerOn M o (checkedOf M l) (checkedOf M r)
+  passes-same : (o : Operation) → Passes M o l r → given (checkedOf M (worth o l r)) ≡ onValues o
   passes-same sum k = ap given (sym (sum-of-values M l r))
   passes-same product k = ap given (sym (product-of-values M l r))
   passes-same quotient (p, n) = sym (quotient-of-values M l r p n)
@@ -40,7 +43,7 @@ module _ (M l r : ℕ) where
   passes-same power k = ap given (sym (power-of-values M l r))
   passes-same logarithm (q, h) = sym (logarithm-of-values M l r q h)
 
-  above-same : (o : Operation) → Above M o l r → refused 3 ≡ answerOn M o (checkedOf M l) (checkedOf M r)
+  above-same : (o : Operation) → Above M o l r → refused 3 ≡ onValues o
   above-same sum h = absurd h
   above-same product h = absurd h
   above-same quotient h = ap (λ v. quotientOf v (checkedOf M r)) (over M l h)
@@ -48,24 +51,27 @@ module _ (M l r : ℕ) where
   above-same power h = absurd h
   above-same logarithm h = ap (λ v. logarithmOf (checkedOf M l) v) (over M r h)
 
-  zero-same : (o : Operation) → ByZero o r → BothFit M l r → refused 1 ≡ answerOn M o (checkedOf M l) (checkedOf M r)
+  zero-same : (o : Operation) → ByZero o r → BothFit M l r → refused 1 ≡ onValues o
   zero-same sum z b = absurd z
   zero-same product z b = absurd z
   zero-same quotient z (p, q) =
-      sym (ap (λ t. cond t (refused 1) (given (Fits (l / r)))) (eq-eqb r 0 z)) ∙ ap₂ quotientOf (fits M l p) (fits M r q)
+      sym (ap (λ t. cond t (refused 1) (given (Fits (l / r)))) (eq-eqb r 0 z))
+      ∙ ap₂ quotientOf (fits M l p) (fits M r q)
   zero-same remainder z (p, q) =
-      sym (ap (λ t. cond t (refused 1) (given (Fits (l % r)))) (eq-eqb r 0 z)) ∙ ap₂ remainderOf (fits M l p) (fits M r q)
+      sym (ap (λ t. cond t (refused 1) (given (Fits (l % r)))) (eq-eqb r 0 z))
+      ∙ ap₂ remainderOf (fits M l p) (fits M r q)
   zero-same power z b = absurd z
   zero-same logarithm z b = absurd z
 
-  base-same : (o : Operation) → SmallBase o l → BothFit M l r → refused 2 ≡ answerOn M o (checkedOf M l) (checkedOf M r)
+  base-same : (o : Operation) → SmallBase o l → BothFit M l r → refused 2 ≡ onValues o
   base-same sum h b = absurd h
   base-same product h b = absurd h
   base-same quotient h b = absurd h
   base-same remainder h b = absurd h
   base-same power h b = absurd h
   base-same logarithm h (p, q) =
-      sym (ap (λ t. cond t (refused 2) (given (Fits (log-of l r)))) (lt-ltb l 2 h)) ∙ ap₂ logarithmOf (fits M l p) (fits M r q)
+      sym (ap (λ t. cond t (refused 2) (given (Fits (log-of l r)))) (lt-ltb l 2 h))
+      ∙ ap₂ logarithmOf (fits M l p) (fits M r q)
 
   -- ---- the same answer
 

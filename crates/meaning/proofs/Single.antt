@@ -31,7 +31,8 @@ logarithms l r h = (log-of-zero l, log-of-floor l r h)
 
 -- ---- refusal
 
-pub never-refused : (M l r : ℕ) → (refusalAt M sum l r ≡ 0) × (refusalAt M product l r ≡ 0) × (refusalAt M power l r ≡ 0)
+pub never-refused
+    : (M l r : ℕ) → (refusalAt M sum l r ≡ 0) × (refusalAt M product l r ≡ 0) × (refusalAt M power l r ≡ 0)
 never-refused M l r = (refl, refl, refl)
 
 module _ (M l r : ℕ) where

@@ -94,7 +94,9 @@ module _ (M : ℕ) (a b : Value) where
     small-base : BothNumbers a b (λ l r. SmallBase o l) → tableCode M o a b ≡ 2 → Row o
 
 -- refused with k where the test holds, and else a value
-tested : (k m : ℕ) {t s : Bool} → t ≡ s → cond t (refused k) (given (Fits m)) .code ≡ cond s (refused k) (given (Fits m)) .code
+tested
+    : (k m : ℕ) {t s : Bool} → t ≡ s →
+    cond t (refused k) (given (Fits m)) .code ≡ cond s (refused k) (given (Fits m)) .code
 tested k m e = ap (λ t. cond t (refused k) (given (Fits m)) .code) e
 
 pub row : (M : ℕ) (o : Operation) (a b : Value) → Row M a b o

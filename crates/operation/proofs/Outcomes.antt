@@ -14,7 +14,9 @@ use Rattle.checked.specs.declared.types.Both.the-variants as both
 use Rattle.checked.specs.declared.types.Checked64.the-variants.{Fits, Overflowed}
 use Rattle.checked.specs.Value.{Value, checkedOf, sumOf, productOf, raisedOf, bothOf, OneOverflowed}
 use Rattle.checked.specs.Paper.{Paper, given, refused, powerOf}
+use Rattle.checked.specs.Pair.{pair, pairOf}
 use Rattle.checked.proofs.BothFit.{both-are}
+use Rattle.checked.proofs.Unique.{both-is}
 use Rattle.checked.proofs.Refused.{not-overflowed}
 use Rattle.shape.specs.Items.{Operation, sum, product, quotient, remainder, power, logarithm, operation, kindOf}
 use Rattle.shape.proofs.Codes.{kind-at, kind-unknown}
@@ -204,22 +206,26 @@ module _ (M : ℕ) (a b : Value) (k : ℕ) where
   pub unknown-begins : 6 < k → fails 8 ≡ begunAs M (kindOf k) a b
   unknown-begins h = sym (ap (λ κ. begunAs M κ a b) (kind-unknown k h))
 
-  -- both operands fit, and so the operation begins with their numbers
-  pub fitting-begins
-      : (l r : ℕ) {o : Outcome} → bothOf a b ≡ both.Numbers l r → o ≡ begunAs M (kindOf k) (Fits l) (Fits r) →
-      o ≡ begunAs M (kindOf k) a b
-  fitting-begins l r e f =
-      let w = both-are a b l r e in
-      f ∙ ap₂ (begunAs M (kindOf k)) (sym (w .0)) (sym (w .1))
+  -- by what `both` says of the two
+  module _ {x : Both} (told : pair x ≡ pairOf a b) where
+    -- both operands fit, and so the operation begins with their numbers
+    pub fitting-begins
+        : (l r : ℕ) {o : Outcome} → x ≡ both.Numbers l r → o ≡ begunAs M (kindOf k) (Fits l) (Fits r) →
+        o ≡ begunAs M (kindOf k) a b
+    fitting-begins l r e f =
+        let w = both-are a b l r (sym (both-is a b told) ∙ e) in
+        f ∙ ap₂ (begunAs M (kindOf k)) (sym (w .0)) (sym (w .1))
 
--- ---- an operand that doesn't fit
-
+-- or one doesn't
 Numbered : Both → Type 0
 Numbered (both.Numbers l r) = Unit {0}
 Numbered both.Overflowed = ⊥
 
-pub one-overflowed : (a b : Value) → bothOf a b ≡ both.Overflowed → OneOverflowed a b
+pub one-overflowed : (a b : Value) {x : Both} → pair x ≡ pairOf a b → x ≡ both.Overflowed → OneOverflowed a b
 unfolding Numbered
-one-overflowed (Fits l) (Fits r) e = absurd (subst Numbered e tt)
-one-overflowed (Fits l) Overflowed e = inr refl
-one-overflowed Overflowed b e = inl refl
+one-overflowed a b told e = by-marks a b (sym (both-is a b told) ∙ e)
+  where
+    by-marks : (a b : Value) → bothOf a b ≡ both.Overflowed → OneOverflowed a b
+    by-marks (Fits l) (Fits r) e = absurd (subst Numbered e tt)
+    by-marks (Fits l) Overflowed e = inr refl
+    by-marks Overflowed b e = inl refl

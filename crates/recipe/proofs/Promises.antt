@@ -1,6 +1,12 @@
 -- What the run of a recipe promises, one named theorem for each promise, about `runOf`, which `recipe::run::run`
 -- equals by its contract for any width, any two lists and any allowance. `Unique` says that no other answer meets that
 -- contract; the lists are lent to be read, so that they can't change.
+--
+-- The answer is that of the recipe worked over unlimited whole numbers, or the first failing item. An item fails with 3
+-- only where the left of a quotient or a remainder, or the argument of a logarithm, is above M (`refusal-3-exactly`);
+-- with any other operand above M it comes to its number as every item does. A step is counted for each item begun, and
+-- further ones for a power's binary digits or a logarithm's units where both operands fit (`further-counted`). With one
+-- above M the item has its one step and no more (`one-step-with-one-above`).
 -- Assumes nothing.
 use mathlib.Core.Path.{_≡_, refl, ap, ap₂, sym, _∙_, subst}
 use mathlib.Core.Logic.{_↔_, _⊎_, inl, inr, ⊎-elim}
@@ -30,6 +36,8 @@ use Rattle.recipe.specs.Run.{ShowsPower, ShowsLogarithm, ShowsHand, Well
 use Rattle.recipe.proofs.Hands.{shows-hand, mark-shown, shows-power, shows-logarithm}
 use Rattle.recipe.proofs.Shaped.{run-refused}
 use Rattle.recipe.proofs.Courses as courses
+pub use Rattle.meaning.proofs.Promises.{refusal-3-exactly, refusal-1-exactly, refusal-2-exactly}
+pub use Rattle.meaning.proofs.Promises.{further-counted, one-step-with-one-above}
 pub use Rattle.recipe.proofs.Unique.{run-unique}
 pub use Rattle.recipe.proofs.Examples.{small-runs, small-stops}
 

@@ -81,7 +81,9 @@ module _ (M l r : ℕ) where
       (dividing-keeps M (log-of l r) l r 0 b k (zero-add (log-of l r)) (omega (arith, log-at-most l r b)))
 
   -- so of their values
-  on-values : (o : Operation) → BothFit M l r → Worked M l r o (Fits l) (Fits r) → Worked M l r o (checkedOf M l) (checkedOf M r)
+  on-values
+      : (o : Operation) → BothFit M l r → Worked M l r o (Fits l) (Fits r) →
+      Worked M l r o (checkedOf M l) (checkedOf M r)
   on-values o (h, k) w =
       subst (λ v. Worked M l r o v (checkedOf M r)) (fits M l h)
       (subst (λ v. Worked M l r o (Fits l) v) (fits M r k) w)
@@ -98,7 +100,8 @@ module _ (M l r : ℕ) where
   one-overflowed n =
       elim (decLe l M) [
         | yes p ↦
-            let h : M < r = elim (decLe r M) [ yes q ↦ absurd (n (p, q)) | no k ↦ omega arith ] in inr (sym (over M r h))
+            let h : M < r = elim (decLe r M) [ yes q ↦ absurd (n (p, q)) | no k ↦ omega arith ] in
+            inr (sym (over M r h))
         | no k ↦ let h : M < l = omega arith in inl (sym (over M l h))
       ]
 

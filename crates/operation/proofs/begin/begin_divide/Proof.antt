@@ -1,8 +1,6 @@
 -- `begin::begin_divide` meets its contract.
 -- Assumes nothing.
-use mathlib.Core.Path.{_∙_, sym}
 use borrow.Author.Needs.{needs}
-use Rattle.checked.proofs.Unique.{both-is}
 use Rattle.operation.proofs.Outcomes.{fitting-begins, one-overflowed}
 use Rattle.operation.proofs.begin.begin_divide.Statement.{statement}
 use Rattle.operation.proofs.begin.begin_divide.Tie as tie
@@ -23,15 +21,14 @@ divide-apart-requires : tie.Need-divide-apart-requires
 divide-apart-requires c κs =
     let s = c .before .before .before in
     let g = s .args in
-    let told = both-is (g .left) (g .right) (c .before .before .both .ensures) in
-    (s .pre .0, s .pre .1, one-overflowed (g .left) (g .right) (sym told ∙ c .enum-told .given .1))
+    (s .pre .0, s .pre .1, one-overflowed (g .left) (g .right) (c .before .before .both .ensures) (c .enum-told .given .1))
 
 returns : tie.Need-returns
 returns c =
     let g = c .before .before .before .before .before .args in
     let v = c .before .before .l .given in
-    let fit = sym (both-is (g .left) (g .right) (c .before .before .before .before .both .ensures)) ∙ v .1 in
-    fitting-begins (g .limit) (g .left) (g .right) (g .kind) (v .0 .0) (v .0 .1 .0) fit (c .divide-fitting .ensures)
+    fitting-begins (g .limit) (g .left) (g .right) (g .kind) (c .before .before .before .before .both .ensures) (v .0 .0)
+    (v .0 .1 .0) (v .1) (c .divide-fitting .ensures)
 
 returns-2 : tie.Need-returns-2
 returns-2 c = c .divide-apart .ensures
