@@ -273,6 +273,19 @@ contains
         call run(64_c_int64_t, sum, [most - 1, 1_c_int64_t, 0_c_int64_t], 3_c_int64_t, 0, expected)
         call run(8_c_int64_t, quotient, [7_c_int64_t, 0_c_int64_t, 0_c_int64_t], most, razovinto_divisor_zero, &
             stopped(2, 3, 0))
+        call check_overflowed()
+    end subroutine
+
+    ! 255 1 sum 0, to the power and as a quotient: the power is known and has one step, the quotient is refused.
+    subroutine check_overflowed()
+        integer(c_int8_t), parameter :: kinds(4) = [literals(:2), razovinto_kind_sum, razovinto_kind_literal]
+        integer(c_int64_t), parameter :: numbers(5) = [255, 1, 0, 0, 0]
+        type(razovinto_run_answer) :: expected
+        expected = stopped(0, 5, 0)
+        expected%number = 1
+        call run(8_c_int64_t, [kinds, razovinto_kind_power], numbers, 5_c_int64_t, 0, expected)
+        call run(8_c_int64_t, [kinds, razovinto_kind_quotient], numbers, most, razovinto_overflowed_operand, &
+            stopped(4, 5, 0))
     end subroutine
 
     ! A power and a logarithm stopped within, and a full hand.

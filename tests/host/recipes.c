@@ -90,6 +90,22 @@ static void check_values(void)
     expect_run(8, "0 0 power", 3, 0, ANSWER(.number = 1, .steps = 3));
 }
 
+/* What is known with an overflowed operand takes the item's one step, and no phase is entered. */
+static void check_known(void)
+{
+    expect_run(8, "7 255 1 sum quotient", 5, 0, ANSWER(.number = 0, .steps = 5));
+    expect_run(8, "7 255 1 sum remainder", 5, 0, ANSWER(.number = 7, .steps = 5));
+    expect_run(8, "255 1 sum 0 power", 5, 0, ANSWER(.number = 1, .steps = 5));
+    expect_run(8, "0 255 1 sum power", 5, 0, ANSWER(.number = 0, .steps = 5));
+    expect_run(8, "1 255 1 sum power", 5, 0, ANSWER(.number = 1, .steps = 5));
+    expect_run(8, "2 255 1 sum power", 5, 0, ANSWER(.overflowed = 1, .steps = 5));
+    expect_run(8, "255 1 sum 1 power", 5, 0, ANSWER(.overflowed = 1, .steps = 5));
+    expect_run(8, "255 1 sum 255 1 sum power", 7, 0, ANSWER(.overflowed = 1, .steps = 7));
+    expect_run(8, "255 1 sum 7 logarithm", 5, 0, ANSWER(.number = 0, .steps = 5));
+    expect_run(64, "18446744073709551615 1 sum 0 power", 5, 0, ANSWER(.number = 1, .steps = 5));
+    expect_run(8, "2 255 1 sum power", 4, STOPPED(4, 4, .on_hand_overflowed = {0, 1}, .on_hand = {2}));
+}
+
 static void check_widths(void)
 {
     static const uint64_t widths[] = {0, 1, 7, 9, 15, 17, 31, 33, 63, 65, 128, 255, 256, 264, 65536 + 8,
@@ -187,7 +203,7 @@ static void check_failing_items(void)
     expect_run(64, "3 0 0 logarithm sum", 100, RAZOVINTO_BASE_BELOW_TWO, ANSWER(.place = 3, .steps = 4));
     expect_run(8, "255 1 sum 0 quotient", 100, RAZOVINTO_OVERFLOWED, ANSWER(.place = 4, .steps = 5));
     expect_run(8, "255 1 sum 0 remainder", 100, RAZOVINTO_OVERFLOWED, ANSWER(.place = 4, .steps = 5));
-    expect_run(8, "0 255 1 sum power", 100, RAZOVINTO_OVERFLOWED, ANSWER(.place = 4, .steps = 5));
+    expect_run(8, "255 1 sum 1 remainder", 100, RAZOVINTO_OVERFLOWED, ANSWER(.place = 4, .steps = 5));
     expect_run(8, "1 255 1 sum logarithm", 100, RAZOVINTO_OVERFLOWED, ANSWER(.place = 4, .steps = 5));
     /* One step short of the item that would fail. */
     expect_run(8, "7 0 quotient", 2, STOPPED(2, 2, .on_hand = {7}));
@@ -237,6 +253,7 @@ static void check_null(void)
 void check_recipes(void)
 {
     check_values();
+    check_known();
     check_widths();
     check_lengths();
     check_shapes();

@@ -264,7 +264,9 @@ class Recipes(Case):
 
     def test_failing(self):
         self.assertEqual(self.refused(1, 2, razovinto.run, 8, [7, 0, "quotient"], 9).run, State(3, 0, None, ()))
-        self.assertEqual(self.refused(3, 4, razovinto.run, 8, [255, 1, "sum", 2, "power"], 9).run.steps, 5)
+        self.assertEqual(self.refused(3, 4, razovinto.run, 8, [255, 1, "sum", 2, "quotient"], 9).run.steps, 5)
+        self.assertEqual(razovinto.run(8, [255, 1, "sum", 0, "power"], 9), Run(1, 5))
+        self.assertEqual(razovinto.run(8, [7, 255, 1, "sum", "remainder"], 9), Run(7, 5))
         self.assertEqual(self.refused(2, 2, razovinto.run, 8, [1, 5, "logarithm"], 9).run.steps, 3)
 
     @with_numpy

@@ -1,5 +1,5 @@
--- How many steps a recipe takes: one for each item begun, one for each binary digit of a power's exponent, one for each unit of a logarithm's answer,
--- up to and with the refused item.
+-- How many steps a recipe takes: one for each item begun, one for each binary digit of a power's exponent and one for
+-- each unit of a logarithm's answer, where both operands fit, up to and with the refused item.
 -- Assumes nothing.
 use mathlib.Core.Bool.{Bool, true, false, cond, _&&_}
 use mathlib.Core.List.{List, [], _∷_}
@@ -13,7 +13,8 @@ use Rattle.meaning.specs.Meaning.{top, under, refusalOn, handOn}
 unfoldable pub digits : ℕ → ℕ
 digits n = cond (eqb n 0) 0 (suc (log-of 2 n))
 
--- the further steps of an operation, once it is begun and not refused
+-- the further steps of an operation, once it is begun and not refused: told of each operand whether it fits, since with
+-- one that doesn't there are none
 abbrev pub further : Operation → Bool → Bool → ℕ → ℕ → ℕ
 further sum lfits rfits l r = 0
 further product lfits rfits l r = 0
