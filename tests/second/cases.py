@@ -270,13 +270,17 @@ def every_allowance(width, words):
         yield Run(width, allowance, kinds, numbers)
 
 
-def every_overflowed_pair_at_8():
-    """Every kind on every pair with an overflowed operand, as a recipe at every allowance."""
+def every_recipe_at_8():
+    """Every kind on every pair of values as a recipe: at every allowance where an operand is overflowed, and with
+    enough steps where both fit."""
     fitting = [str(number) for number in range(256)]
     pairs = [*((left, MADE_OVERFLOWED) for left in fitting), *((MADE_OVERFLOWED, right) for right in fitting)]
     for left, right in (*pairs, (MADE_OVERFLOWED, MADE_OVERFLOWED)):
         for word in model.KIND_WORDS[SUM:]:
             yield from every_allowance(8, f"{left} {right} {word}")
+    for kind in range(SUM, LOGARITHM + 1):
+        kinds = bytes([LITERAL, LITERAL, kind])
+        yield from (Run(8, MOST, kinds, (left, right, 0)) for left in range(256) for right in range(256))
 
 
 def longest_runs(lengths=(1, 3, 5, 63, 255)):

@@ -59,7 +59,7 @@ def made(dice):
     """Random cases and those at the boundaries, mixed; then all of 8 bits."""
     random_ones = (maker(dice) for maker, count in zip(cases.SOME, RANDOM) for _ in range(count))
     mixed = dice.shuffled([*random_ones, *boundaries(dice)])
-    return mixed, [*cases.every_operation_at_8(), *cases.every_overflowed_pair_at_8(), *cases.every_signed_at_8()]
+    return mixed, [*cases.every_operation_at_8(), *cases.every_recipe_at_8(), *cases.every_signed_at_8()]
 
 
 def replayed(program, given):
