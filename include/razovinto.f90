@@ -256,16 +256,19 @@ module razovinto
     interface
         ! Runs a recipe at a width of 8, 16, 32 or 64 bits, for at most `allowance` steps. A recipe is two lists in
         ! postfix order: a literal is kind 0 with its number, an operation has the number 0 and takes the two values on
-        ! hand that come last. A result above the largest number of the width is overflowed, and the recipe goes on with
-        ! it. Overflowed times 0 is 0. A number by an overflowed right has the quotient 0 and the remainder itself;
-        ! anything to the power of 0 is 1, and 0 or 1 to an overflowed exponent is 0 or 1; a number's logarithm in an
-        ! overflowed base is 0. All else with an overflowed operand is overflowed, but for an overflowed left of a
-        ! quotient or a remainder and an overflowed argument of a logarithm, which are refused. Refused with 5 to 13 for its shape, in this order: razovinto_unknown_width,
-        ! razovinto_lengths_differ, razovinto_item_count; item by item razovinto_unknown_kind, then
-        ! razovinto_literal_too_large and razovinto_hand_full for a literal, or razovinto_too_few_on_hand for an
-        ! operation; razovinto_several_left, razovinto_none_left. Then it runs, and the first item that fails is the
-        ! answer: razovinto_overflowed_operand, razovinto_divisor_zero, razovinto_base_below_two; or
-        ! razovinto_allowance_spent.
+        ! hand that come last.
+        !
+        ! A result above the largest number of the width is overflowed, and a recipe goes on with it. Overflowed times 0
+        ! is 0. A number by an overflowed right has the quotient 0 and the remainder itself; anything to the power of 0
+        ! is 1, and 0 or 1 to an overflowed exponent is 0 or 1; a number's logarithm in an overflowed base is 0. All else
+        ! with an overflowed operand is overflowed, but for an overflowed left of a quotient or a remainder and an
+        ! overflowed argument of a logarithm, which are refused.
+        !
+        ! Refused with 5 to 13 for its shape, in this order: razovinto_unknown_width, razovinto_lengths_differ,
+        ! razovinto_item_count; item by item razovinto_unknown_kind, then razovinto_literal_too_large and
+        ! razovinto_hand_full for a literal, or razovinto_too_few_on_hand for an operation; razovinto_several_left,
+        ! razovinto_none_left. Then it runs, and the first item that fails is the answer: razovinto_overflowed_operand,
+        ! razovinto_divisor_zero, razovinto_base_below_two; or razovinto_allowance_spent.
         function razovinto_run(width, kinds, kind_count, numbers, number_count, allowance, answer, length) &
             bind(c, name='razovinto_run') result(refusal)
             import :: c_int8_t, c_int32_t, c_int64_t, c_size_t, razovinto_run_answer
