@@ -10,9 +10,11 @@
 #include <string.h>
 #include <time.h>
 
-/* the library, plain C and Rust, an earlier library; and for products alone a division, and other forms of halves */
-enum { OURS, C, RUST, BEFORE, DIVISION, JOINED, ADDED, WHOLE, CROSSED, COLUMNS, SIDES };
+/* the library, plain C and Rust, an earlier library; for products alone a division, and other forms of halves; for rows alone
+   as many single entries, and for records plain lists */
+enum { OURS, C, RUST, BEFORE, DIVISION, JOINED, ADDED, WHOLE, CROSSED, COLUMNS, SINGLE, LISTS, SIDES };
 enum { ROUNDS = 21, PAIRS = 2048, BLOCKS = 512, VALUES = 55 * BLOCKS, FIELD = 65536, RECIPES = 64, ITEMS = 255 };
+enum { ROW = RAZOVINTO_ROW_MOST };
 
 static uint64_t state = 20261115;
 
@@ -48,6 +50,9 @@ static uint8_t kinds[RECIPES][ITEMS];
 static uint64_t numbers[RECIPES][ITEMS];
 static float readings[FIELD];
 static uint8_t ground[FIELD];
+static uint8_t row_kinds[ROW];
+static uint64_t row_lefts[ROW], row_rights[ROW];
+static struct razovinto_operation row_records[ROW];
 
 static void any_pairs(void)
 {
@@ -112,6 +117,47 @@ static void logarithm_pairs(void)
     for (int i = 0; i < PAIRS; i++) {
         lefts[i] = 2 + (any() >> (32 + any() % 32));
         rights[i] = any_magnitude();
+    }
+}
+
+static void row_element(int i, uint8_t kind, uint64_t left, uint64_t right)
+{
+    row_kinds[i] = row_records[i].kind = kind;
+    row_lefts[i] = row_records[i].left = left;
+    row_rights[i] = row_records[i].right = right;
+}
+
+static void row_of_sums(void)
+{
+    for (int i = 0; i < ROW; i++)
+        row_element(i, RAZOVINTO_SUM, any_magnitude(), any_magnitude());
+}
+
+/* half of the sums are overflowed, at no regular places */
+static void row_of_wide_sums(void)
+{
+    for (int i = 0; i < ROW; i++)
+        row_element(i, RAZOVINTO_SUM, any(), any());
+}
+
+static void row_of_products(void)
+{
+    for (int i = 0; i < ROW; i++)
+        row_element(i, RAZOVINTO_PRODUCT, any_magnitude(), any_magnitude());
+}
+
+/* all six kinds, at no regular places, each with numbers as its own subject has them */
+static void row_of_all(void)
+{
+    for (int i = 0; i < ROW; i++) {
+        unsigned bits = 1 + any() % 40;
+        uint8_t kind = (uint8_t)(1 + any() % 6);
+        if (kind == RAZOVINTO_POWER)
+            row_element(i, kind, any() >> (64 - bits), any() % (2 * 64 / bits + 1));
+        else if (kind == RAZOVINTO_LOGARITHM)
+            row_element(i, kind, 2 + (any() >> (32 + any() % 32)), any_magnitude());
+        else
+            row_element(i, kind, any_magnitude(), any_magnitude());
     }
 }
 
@@ -336,6 +382,55 @@ static void pass_operation(function *f)
         sink += entry(lefts[i], rights[i], result, sizeof result) + result[0] + result[8];
 }
 
+static uint64_t row_numbers[ROW];
+static uint8_t row_marks[ROW], row_codes[ROW];
+
+/* a row by single entries, as a host without rows has to do it */
+static uint32_t single_row(const uint8_t *kinds, size_t kind_count, const uint64_t *lefts, size_t left_count,
+                           const uint64_t *rights, size_t right_count, uint64_t *numbers, size_t number_count, uint8_t *marks,
+                           size_t mark_count, uint8_t *codes, size_t code_count)
+{
+    static operation *const entries[] = {razovinto_sum,       razovinto_product, razovinto_quotient,
+                                         razovinto_remainder, razovinto_power,   razovinto_logarithm};
+    if (kind_count != left_count || kind_count != right_count)
+        return 6;
+    if (kind_count == 0 || kind_count > ROW)
+        return 7;
+    if (number_count < kind_count || mark_count < kind_count || code_count < kind_count)
+        return 19;
+    for (size_t i = 0; i < kind_count; i++) {
+        uint8_t result[16], kind = kinds[i];
+        uint32_t refusal = kind < 1 || kind > 6 ? 8 : entries[kind - 1](lefts[i], rights[i], result, sizeof result);
+        if (refusal != 0)
+            memset(result, 0, 9);
+        memcpy(&numbers[i], result, 8); /* faster than razovinto_number, which goes byte by byte */
+        marks[i] = result[8];
+        codes[i] = (uint8_t)refusal;
+    }
+    return 0;
+}
+
+/* the row of the records' fields, which stand in plain lists too */
+static uint32_t row_by_lists(const struct razovinto_operation *operations, size_t operation_count, uint64_t *numbers,
+                             size_t number_count, uint8_t *marks, size_t mark_count, uint8_t *codes, size_t code_count)
+{
+    size_t start = (size_t)(operations - row_records);
+    return razovinto_row(row_kinds + start, operation_count, row_lefts + start, operation_count, row_rights + start,
+                         operation_count, numbers, number_count, marks, mark_count, codes, code_count);
+}
+
+static void pass_row(function *f)
+{
+    sink += ((rower *)f)(row_kinds, ROW, row_lefts, ROW, row_rights, ROW, row_numbers, ROW, row_marks, ROW, row_codes, ROW);
+    sink += row_numbers[0] + row_marks[ROW - 1] + row_codes[ROW / 2];
+}
+
+static void pass_records(function *f)
+{
+    sink += ((record_rower *)f)(row_records, ROW, row_numbers, ROW, row_marks, ROW, row_codes, ROW);
+    sink += row_numbers[0] + row_marks[ROW - 1] + row_codes[ROW / 2];
+}
+
 static void pass_run(function *f)
 {
     runner *entry = (runner *)f;
@@ -444,6 +539,59 @@ static void same_operation(const char *what, function *f, function *g)
         uint8_t a[16] = {9}, b[16] = {9};
         uint32_t r = ((operation *)f)(lefts[i], rights[i], a, 16), s = ((operation *)g)(lefts[i], rights[i], b, 16);
         if (r != s || memcmp(a, b, 16) != 0)
+            fail(what, i);
+    }
+}
+
+struct row {
+    uint64_t numbers[ROW + 2];
+    uint8_t marks[ROW + 2], codes[ROW + 2];
+};
+
+/* Parts of the row, of these many operations, with a result list too short, just long enough or longer, whose end stays. */
+enum { PARTS = 8 * 4 };
+
+static size_t part_of_row(int i, size_t room[3])
+{
+    static const size_t counts[] = {0, 1, 2, 17, 1000, ROW - 1, ROW, ROW};
+    size_t count = counts[i / 4];
+    for (int k = 0; k < 3; k++)
+        room[k] = i % 4 == 3 ? count + 2 : count - (i % 4 == k && count > 0);
+    return count;
+}
+
+static void same_row(const char *what, function *f, function *g)
+{
+    static struct row one, other;
+    for (int i = 0; i < 2 * PARTS; i++) {
+        size_t room[3], count = part_of_row(i / 2, room), start = any() % (ROW - count + 1);
+        size_t rights = count - (i % 2 && i % 3 == 0 && count > 0);
+        const uint64_t *l = row_lefts + start, *r = row_rights + start;
+        uint8_t *k = row_kinds + start, kept = *k;
+        if (i % 2 && count > 0)
+            *k = (uint8_t)(i % 3 == 1 ? 0 : 7 + i % 9);
+        memset(&one, 9, sizeof one);
+        memset(&other, 9, sizeof other);
+        uint32_t x = ((rower *)f)(k, count, l, count, r, rights, one.numbers, room[0], one.marks, room[1], one.codes, room[2]);
+        uint32_t y = ((rower *)g)(k, count, l, count, r, rights, other.numbers, room[0], other.marks, room[1], other.codes,
+                                  room[2]);
+        *k = kept;
+        if (x != y || memcmp(&one, &other, sizeof one) != 0)
+            fail(what, i);
+    }
+}
+
+static void same_records(const char *what, function *f, function *g)
+{
+    static struct row one, other;
+    for (int i = 0; i < PARTS; i++) {
+        size_t room[3], count = part_of_row(i, room), start = any() % (ROW - count + 1);
+        const struct razovinto_operation *o = row_records + start;
+        memset(&one, 9, sizeof one);
+        memset(&other, 9, sizeof other);
+        uint32_t x = ((record_rower *)f)(o, count, one.numbers, room[0], one.marks, room[1], one.codes, room[2]);
+        uint32_t y = ((record_rower *)g)(o, count, other.numbers, room[0], other.marks, room[1], other.codes, room[2]);
+        if (x != y || memcmp(&one, &other, sizeof one) != 0)
             fail(what, i);
     }
 }
@@ -594,7 +742,7 @@ struct subject {
     function *side[SIDES];
     const char *unit;
     double units; /* in a pass; 0: the steps of the recipes */
-    double wanted_of_c, wanted_of_rust; /* 0: nothing is asked */
+    double wanted_of_c, wanted_of_rust, wanted_of_single, wanted_of_lists; /* 0: nothing is asked */
 };
 
 #define SIDE(name) (function *)name
@@ -613,37 +761,48 @@ struct subject {
      [CROSSED] = SIDE(halves_crossed),                                                                                             \
      [COLUMNS] = SIDE(halves_columns)}
 
+#define ROW_SIDES {LIBRARIES(row), [C] = SIDE(c_row), [SINGLE] = SIDE(single_row)}
+#define RECORD_SIDES {LIBRARIES(row_of_records), [C] = SIDE(c_row_of_records), [LISTS] = SIDE(row_by_lists)}
+
 static const struct subject subjects[] = {
-    {"sum", any_pairs, pass_operation, same_operation, BESIDE_BOTH(sum), "call", PAIRS, 1.25, 0},
-    {"product", any_pairs, pass_operation, same_operation, PRODUCT, "call", PAIRS, 0, 0},
-    {"product, below 2^32", low_pairs, pass_operation, same_operation, PRODUCT, "call", PAIRS, 0, 0},
-    {"product, one above", fitting_pairs, pass_operation, same_operation, PRODUCT, "call", PAIRS, 0, 0},
-    {"product, overflowed", overflowed_pairs, pass_operation, same_operation, PRODUCT, "call", PAIRS, 0, 0},
-    {"product, both above", high_pairs, pass_operation, same_operation, PRODUCT, "call", PAIRS, 0, 0},
-    {"quotient", any_pairs, pass_operation, same_operation, BESIDE_BOTH(quotient), "call", PAIRS, 1.25, 0},
-    {"remainder", any_pairs, pass_operation, same_operation, BESIDE_BOTH(remainder), "call", PAIRS, 0, 0},
-    {"power", power_pairs, pass_operation, same_operation, BESIDE_BOTH(power), "call", PAIRS, 1.05, 1},
-    {"logarithm", logarithm_pairs, pass_operation, same_operation, BESIDE_BOTH(logarithm), "call", PAIRS, 1.1, 1},
-    {"runner, five items", short_items, pass_short_run, same_run, BESIDE_C(run), "call", RECIPES, 0, 0},
-    {"runner, short items", short_items, pass_run, same_run, BESIDE_C(run), "step", 0, 1.2, 0},
-    {"runner, products", product_items, pass_run, same_run, BESIDE_C(run), "step", 0, 1.2, 0},
-    {"runner, powers", power_items, pass_run, same_run, BESIDE_C(run), "step", 0, 1.2, 0},
-    {"runner, logarithms", logarithm_items, pass_run, same_run, BESIDE_C(run), "step", 0, 1.2, 0},
-    {"reader, 55 values", full_blocks, pass_read, same_read, BESIDE_RUST(read), "block", BLOCKS, 0, 0.5},
-    {"reader, 1 value", short_blocks, pass_read, same_read, BESIDE_RUST(read), "block", BLOCKS, 0, 0.5},
-    {"writer, 55 values", any_field, pass_write, same_write, BESIDE_BOTH(write), "block", BLOCKS, 0, 0.5},
-    {"writer, 1 value", any_field, pass_write_one, same_write, BESIDE_BOTH(write), "block", BLOCKS, 0, 0.5},
-    {"writer, marked", marked_field, pass_write, same_write, BESIDE_BOTH(write), "block", BLOCKS, 0, 0.5},
-    {"search, 55 values", full_blocks, pass_search, same_search, BESIDE_RUST(search), "block", BLOCKS, 0, 0.6},
-    {"search, 1 value", short_blocks, pass_search, same_search, BESIDE_RUST(search), "block", BLOCKS, 0, 0.6},
-    {"scan", any_field, pass_scan, same_scan, BESIDE_RUST(scan), "value", FIELD, 0, 1.05},
-    {"scan, 55 values", any_field, pass_scan_short, same_scan, BESIDE_RUST(scan), "field", BLOCKS, 0, 0},
-    {"level scan, any", any_level, pass_level_scan, same_level_scan, BESIDE_BOTH(level_scan), "value", FIELD, 0, 0.8},
-    {"level scan, rain", rain_level, pass_level_scan, same_level_scan, BESIDE_BOTH(level_scan), "value", FIELD, 0, 0.8},
-    {"level scan, plateau", plateau_level, pass_level_scan, same_level_scan, BESIDE_BOTH(level_scan), "value", FIELD, 0, 0.8},
-    {"level scan, NaN last", spoilt_level, pass_level_scan, same_level_scan, BESIDE_BOTH(level_scan), "value", FIELD, 0, 0},
-    {"level to field", whole_level, pass_level_to_field, same_level_to_field, BESIDE_BOTH(level_to_field), "value", FIELD, 0, 1.2},
-    {"level to field, low", small_level, pass_level_to_field, same_level_to_field, BESIDE_BOTH(level_to_field), "value", FIELD, 0, 1.2},
+    {"sum", any_pairs, pass_operation, same_operation, BESIDE_BOTH(sum), "call", PAIRS, 1.25, 0, 0, 0},
+    {"product", any_pairs, pass_operation, same_operation, PRODUCT, "call", PAIRS, 0, 0, 0, 0},
+    {"product, below 2^32", low_pairs, pass_operation, same_operation, PRODUCT, "call", PAIRS, 0, 0, 0, 0},
+    {"product, one above", fitting_pairs, pass_operation, same_operation, PRODUCT, "call", PAIRS, 0, 0, 0, 0},
+    {"product, overflowed", overflowed_pairs, pass_operation, same_operation, PRODUCT, "call", PAIRS, 0, 0, 0, 0},
+    {"product, both above", high_pairs, pass_operation, same_operation, PRODUCT, "call", PAIRS, 0, 0, 0, 0},
+    {"quotient", any_pairs, pass_operation, same_operation, BESIDE_BOTH(quotient), "call", PAIRS, 1.25, 0, 0, 0},
+    {"remainder", any_pairs, pass_operation, same_operation, BESIDE_BOTH(remainder), "call", PAIRS, 0, 0, 0, 0},
+    {"power", power_pairs, pass_operation, same_operation, BESIDE_BOTH(power), "call", PAIRS, 1.05, 1, 0, 0},
+    {"logarithm", logarithm_pairs, pass_operation, same_operation, BESIDE_BOTH(logarithm), "call", PAIRS, 1.1, 1, 0, 0},
+    {"row, sums", row_of_sums, pass_row, same_row, ROW_SIDES, "place", ROW, 0, 0, 0.5, 0},
+    {"row, half over", row_of_wide_sums, pass_row, same_row, ROW_SIDES, "place", ROW, 0, 0, 0, 0},
+    {"row, products", row_of_products, pass_row, same_row, ROW_SIDES, "place", ROW, 0, 0, 0, 0},
+    {"row, mixed", row_of_all, pass_row, same_row, ROW_SIDES, "place", ROW, 1.1, 0, 0, 0},
+    {"records, sums", row_of_sums, pass_records, same_records, RECORD_SIDES, "place", ROW, 0, 0, 0, 1.2},
+    {"records, half over", row_of_wide_sums, pass_records, same_records, RECORD_SIDES, "place", ROW, 0, 0, 0, 0},
+    {"records, products", row_of_products, pass_records, same_records, RECORD_SIDES, "place", ROW, 0, 0, 0, 1.2},
+    {"records, mixed", row_of_all, pass_records, same_records, RECORD_SIDES, "place", ROW, 0, 0, 0, 1.2},
+    {"runner, five items", short_items, pass_short_run, same_run, BESIDE_C(run), "call", RECIPES, 0, 0, 0, 0},
+    {"runner, short items", short_items, pass_run, same_run, BESIDE_C(run), "step", 0, 1.2, 0, 0, 0},
+    {"runner, products", product_items, pass_run, same_run, BESIDE_C(run), "step", 0, 1.2, 0, 0, 0},
+    {"runner, powers", power_items, pass_run, same_run, BESIDE_C(run), "step", 0, 1.2, 0, 0, 0},
+    {"runner, logarithms", logarithm_items, pass_run, same_run, BESIDE_C(run), "step", 0, 1.2, 0, 0, 0},
+    {"reader, 55 values", full_blocks, pass_read, same_read, BESIDE_RUST(read), "block", BLOCKS, 0, 0.5, 0, 0},
+    {"reader, 1 value", short_blocks, pass_read, same_read, BESIDE_RUST(read), "block", BLOCKS, 0, 0.5, 0, 0},
+    {"writer, 55 values", any_field, pass_write, same_write, BESIDE_BOTH(write), "block", BLOCKS, 0, 0.5, 0, 0},
+    {"writer, 1 value", any_field, pass_write_one, same_write, BESIDE_BOTH(write), "block", BLOCKS, 0, 0.5, 0, 0},
+    {"writer, marked", marked_field, pass_write, same_write, BESIDE_BOTH(write), "block", BLOCKS, 0, 0.5, 0, 0},
+    {"search, 55 values", full_blocks, pass_search, same_search, BESIDE_RUST(search), "block", BLOCKS, 0, 0.6, 0, 0},
+    {"search, 1 value", short_blocks, pass_search, same_search, BESIDE_RUST(search), "block", BLOCKS, 0, 0.6, 0, 0},
+    {"scan", any_field, pass_scan, same_scan, BESIDE_RUST(scan), "value", FIELD, 0, 1.05, 0, 0},
+    {"scan, 55 values", any_field, pass_scan_short, same_scan, BESIDE_RUST(scan), "field", BLOCKS, 0, 0, 0, 0},
+    {"level scan, any", any_level, pass_level_scan, same_level_scan, BESIDE_BOTH(level_scan), "value", FIELD, 0, 0.8, 0, 0},
+    {"level scan, rain", rain_level, pass_level_scan, same_level_scan, BESIDE_BOTH(level_scan), "value", FIELD, 0, 0.8, 0, 0},
+    {"level scan, plateau", plateau_level, pass_level_scan, same_level_scan, BESIDE_BOTH(level_scan), "value", FIELD, 0, 0.8, 0, 0},
+    {"level scan, NaN last", spoilt_level, pass_level_scan, same_level_scan, BESIDE_BOTH(level_scan), "value", FIELD, 0, 0, 0, 0},
+    {"level to field", whole_level, pass_level_to_field, same_level_to_field, BESIDE_BOTH(level_to_field), "value", FIELD, 0, 1.2, 0, 0},
+    {"level to field, low", small_level, pass_level_to_field, same_level_to_field, BESIDE_BOTH(level_to_field), "value", FIELD, 0, 1.2, 0, 0},
 };
 
 static double steps_of_recipes(void)
@@ -702,7 +861,7 @@ static void measure(const struct subject *s, double middle[SIDES])
 }
 
 /* a line for each subject, for bench/table.py: its name, its unit, nanoseconds a unit of each side (0 where there is none), and
-   the ratios to C and Rust that are wanted */
+   the ratios to C, Rust, single entries and plain lists that are wanted */
 int main(void)
 {
     for (size_t i = 0; i < sizeof subjects / sizeof subjects[0]; i++) {
@@ -717,7 +876,7 @@ int main(void)
         printf("%s|%s", s->name, s->unit);
         for (int side = OURS; side < SIDES; side++)
             printf("|%.4f", middle[side] / units);
-        printf("|%g|%g\n", s->wanted_of_c, s->wanted_of_rust);
+        printf("|%g|%g|%g|%g\n", s->wanted_of_c, s->wanted_of_rust, s->wanted_of_single, s->wanted_of_lists);
     }
     return sink == 1;
 }

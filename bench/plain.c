@@ -1,4 +1,4 @@
-/* The six operations, the recipe's machine, the block writer and both functions on levels in plain C, for the benchmark alone. */
+/* The six operations and rows of them, the recipe's machine, the block writer and both functions on levels in plain C, for the benchmark alone. */
 #include "../include/razovinto.h"
 #include "plain.h"
 
@@ -108,6 +108,78 @@ uint32_t c_logarithm(uint64_t base, uint64_t argument, uint8_t *result, size_t l
     if (base < 2)
         return 2;
     return put(result, floor_log(base, argument), false);
+}
+
+/* ---- rows */
+
+/* in line in both loops, as it would be in a program that has one of them */
+static inline __attribute__((always_inline)) void put_element(struct razovinto_operation operation, uint64_t *number,
+                                                              uint8_t *mark, uint8_t *code)
+{
+    uint64_t left = operation.left, right = operation.right, n = 0;
+    bool overflowed = false;
+    uint8_t refusal = 0;
+    switch (operation.kind) {
+    case RAZOVINTO_SUM:
+        overflowed = __builtin_add_overflow(left, right, &n);
+        break;
+    case RAZOVINTO_PRODUCT:
+        overflowed = __builtin_mul_overflow(left, right, &n);
+        break;
+    case RAZOVINTO_QUOTIENT:
+        if (right == 0)
+            refusal = 1;
+        else
+            n = left / right;
+        break;
+    case RAZOVINTO_REMAINDER:
+        if (right == 0)
+            refusal = 1;
+        else
+            n = left % right;
+        break;
+    case RAZOVINTO_POWER:
+        overflowed = power_overflows(left, right, &n);
+        break;
+    case RAZOVINTO_LOGARITHM:
+        if (left < 2)
+            refusal = 2;
+        else
+            n = floor_log(left, right);
+        break;
+    default:
+        refusal = 8;
+    }
+    *number = overflowed ? 0 : n;
+    *mark = overflowed;
+    *code = refusal;
+}
+
+uint32_t c_row(const uint8_t *kinds, size_t kind_count, const uint64_t *lefts, size_t left_count, const uint64_t *rights,
+               size_t right_count, uint64_t *numbers, size_t number_count, uint8_t *marks, size_t mark_count, uint8_t *codes,
+               size_t code_count)
+{
+    if (kind_count != left_count || kind_count != right_count)
+        return 6;
+    if (kind_count == 0 || kind_count > RAZOVINTO_ROW_MOST)
+        return 7;
+    if (number_count < kind_count || mark_count < kind_count || code_count < kind_count)
+        return 19;
+    for (size_t i = 0; i < kind_count; i++)
+        put_element((struct razovinto_operation){kinds[i], lefts[i], rights[i]}, &numbers[i], &marks[i], &codes[i]);
+    return 0;
+}
+
+uint32_t c_row_of_records(const struct razovinto_operation *operations, size_t operation_count, uint64_t *numbers,
+                          size_t number_count, uint8_t *marks, size_t mark_count, uint8_t *codes, size_t code_count)
+{
+    if (operation_count == 0 || operation_count > RAZOVINTO_ROW_MOST)
+        return 7;
+    if (number_count < operation_count || mark_count < operation_count || code_count < operation_count)
+        return 19;
+    for (size_t i = 0; i < operation_count; i++)
+        put_element(operations[i], &numbers[i], &marks[i], &codes[i]);
+    return 0;
 }
 
 /* ---- the machine */

@@ -29,7 +29,16 @@ typedef uint32_t level_scanner(const float *readings, size_t reading_count, cons
 typedef uint32_t turner(const float *readings, size_t reading_count, const uint8_t *ground, size_t ground_count, uint64_t *numbers,
                         size_t number_count, uint8_t *marks, size_t mark_count, uint64_t *answer, size_t length);
 
+struct razovinto_operation;
+typedef uint32_t rower(const uint8_t *kinds, size_t kind_count, const uint64_t *lefts, size_t left_count, const uint64_t *rights,
+                       size_t right_count, uint64_t *numbers, size_t number_count, uint8_t *marks, size_t mark_count, uint8_t *codes,
+                       size_t code_count);
+typedef uint32_t record_rower(const struct razovinto_operation *operations, size_t operation_count, uint64_t *numbers,
+                              size_t number_count, uint8_t *marks, size_t mark_count, uint8_t *codes, size_t code_count);
+
 runner c_run;
+rower c_row;
+record_rower c_row_of_records;
 scanner rust_scan;
 reader rust_read;
 writer c_write, rust_write;
@@ -40,6 +49,8 @@ turner c_level_to_field, rust_level_to_field;
 #define MAY_BE_MISSING __attribute__((weak))
 MAY_BE_MISSING operation before_sum, before_product, before_quotient, before_remainder, before_power, before_logarithm;
 MAY_BE_MISSING runner before_run;
+MAY_BE_MISSING rower before_row;
+MAY_BE_MISSING record_rower before_row_of_records;
 MAY_BE_MISSING scanner before_scan;
 MAY_BE_MISSING reader before_read;
 MAY_BE_MISSING writer before_write;

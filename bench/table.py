@@ -1,6 +1,7 @@
 #!/usr/bin/env python3
-"""Prints tables of the lines of bench.c, run once for each layout: the library beside plain C and Rust; beside an earlier
-library, where one was timed; and the forms of a product from halves beside each other.
+"""Prints tables of the lines of bench.c, run once for each layout: the library beside plain C and Rust; rows beside single
+entries, and records beside plain lists; beside an earlier library, where one was timed; and the forms of a product from halves
+beside each other.
 
     table.py PROGRAM..
 
@@ -12,11 +13,13 @@ import subprocess
 import sys
 
 
-SIDES = ("library", "C", "Rust", "before", "division", "joined", "added", "whole", "crossed", "columns")
+SIDES = ("library", "C", "Rust", "before", "division", "joined", "added", "whole", "crossed", "columns", "single",
+         "lists")
+WANTED = ("C", "Rust", "single", "lists")
 
 
 def measured(program):
-    """The lines of one run: name, unit, nanoseconds of each side, and the ratios to C and Rust that are wanted."""
+    """The lines of one run: name, unit, nanoseconds of each side, and the ratios that are wanted."""
     lines = subprocess.run([program], check=True, capture_output=True, text=True).stdout.splitlines()
     return [line.split("|") for line in lines]
 
@@ -28,7 +31,7 @@ class Subject:
         self.name, self.unit = rows[0][:2]
         times = zip(*((float(word) for word in row[2 : 2 + len(SIDES)]) for row in rows))
         self.times = dict(zip(SIDES, map(statistics.median, times)))
-        self.wanted = dict(zip(("C", "Rust"), (float(word) for word in rows[0][2 + len(SIDES) :])))
+        self.wanted = dict(zip(WANTED, (float(word) for word in rows[0][2 + len(SIDES) :])))
 
     def line(self, sides):
         times = " ".join(f"{self.times[side]:9.2f}" if self.times[side] else f"{'-':>9}" for side in sides)
@@ -38,8 +41,9 @@ class Subject:
         """The library's time divided by this side's, or None."""
         return round(self.times["library"] / self.times[side], 2) if self.times[side] else None
 
-    def missed(self, side):
-        return bool(self.wanted[side]) and self.ratio(side) > self.wanted[side]
+    def missed(self, sides=WANTED):
+        """Whether a ratio that is wanted is missed."""
+        return any(self.wanted[side] and self.ratio(side) > self.wanted[side] for side in sides)
 
     def column(self, side):
         """The column of a ratio, with what is wanted where anything is."""
@@ -57,8 +61,18 @@ def beside_plain(subjects):
     sides = ("library", "C", "Rust")
     head(sides, "   of C (wanted)   of Rust (wanted)")
     for subject in subjects:
-        missed = " missed" if subject.missed("C") or subject.missed("Rust") else ""
+        missed = " missed" if subject.missed(("C", "Rust")) else ""
         print(f"{subject.line(sides)}  {subject.column('C')} {subject.column('Rust')}{missed}".rstrip())
+
+
+def rows(subjects):
+    sides = ("library", "single", "lists")
+    print()
+    head(sides, "   of single       of lists")
+    for subject in subjects:
+        if subject.times["single"] or subject.times["lists"]:
+            missed = " missed" if subject.missed(("single", "lists")) else ""
+            print(f"{subject.line(sides)}  {subject.column('single')} {subject.column('lists')}{missed}".rstrip())
 
 
 def beside_before(subjects):
@@ -71,7 +85,7 @@ def beside_before(subjects):
 
 
 def forms(subjects):
-    sides = SIDES[SIDES.index("joined") :]
+    sides = SIDES[SIDES.index("joined") : SIDES.index("single")]
     print()
     head(sides)
     for subject in subjects:
@@ -83,8 +97,8 @@ def main():
     runs = [measured(program) for program in sys.argv[1:]]
     subjects = [Subject(rows) for rows in zip(*runs)]
     beside_plain(subjects)
-    missed = sum(subject.missed("C") or subject.missed("Rust") for subject in subjects)
-    print(f"{len(runs)} layouts, {missed} missed")
+    rows(subjects)
+    print(f"{len(runs)} layouts, {sum(subject.missed() for subject in subjects)} missed")
     if any(subject.times["before"] for subject in subjects):
         beside_before(subjects)
     forms(subjects)

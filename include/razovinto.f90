@@ -1,5 +1,5 @@
-! Razovinto for hosts written in Fortran: checked arithmetic on numbers of 64 bits, recipes, fields, blocks and levels
-! of raw floats.
+! Razovinto for hosts written in Fortran: checked arithmetic on numbers of 64 bits, recipes, rows of operations, fields,
+! blocks and levels of raw floats.
 !
 ! Every function takes any input and asks nothing of it: where something is wrong, it gives a refusal's number, and 0
 ! otherwise. A lent list is an array and a count of elements. Nothing is kept from one call to the next, and several
@@ -21,16 +21,16 @@ module razovinto
     private
     public :: razovinto_sum, razovinto_product, razovinto_quotient, razovinto_remainder, razovinto_power, &
         razovinto_logarithm, razovinto_number, razovinto_overflowed, razovinto_power_fits, razovinto_signed_quotient, &
-        razovinto_signed_remainder, razovinto_run, razovinto_shape, razovinto_scan, razovinto_sound, razovinto_read, &
-        razovinto_write, razovinto_written_size, razovinto_search, razovinto_level_scan, razovinto_level_to_field, &
-        razovinto_refusal_text
+        razovinto_signed_remainder, razovinto_run, razovinto_shape, razovinto_row, razovinto_row_of_records, &
+        razovinto_scan, razovinto_sound, razovinto_read, razovinto_write, razovinto_written_size, razovinto_search, &
+        razovinto_level_scan, razovinto_level_to_field, razovinto_refusal_text
 
     character(len=*), parameter, public :: &
-        razovinto_version = '4.4.0'
+        razovinto_version = '4.5.0'
     integer, parameter, public :: &
         razovinto_version_major = 4
     integer, parameter, public :: &
-        razovinto_version_minor = 4
+        razovinto_version_minor = 5
     integer, parameter, public :: &
         razovinto_version_patch = 0
 
@@ -66,7 +66,7 @@ module razovinto
     ! How many bytes each of the six operations writes.
     integer(c_size_t), parameter, public :: razovinto_result_size = 16
 
-    ! The kinds of a recipe's items.
+    ! The kinds of a recipe's items, and from razovinto_kind_sum on of a row's operations.
     integer(c_int8_t), parameter, public :: razovinto_kind_literal = 0
     integer(c_int8_t), parameter, public :: razovinto_kind_sum = 1
     integer(c_int8_t), parameter, public :: razovinto_kind_product = 2
@@ -80,8 +80,10 @@ module razovinto
     integer(c_int64_t), parameter, public :: razovinto_within_power = 1
     integer(c_int64_t), parameter, public :: razovinto_within_logarithm = 2
 
-    ! How many values may be on hand; a block's bytes, and how many values it may have.
+    ! How many values may be on hand; how many operations a row may have; a block's bytes, and how many values it may
+    ! have.
     integer, parameter, public :: razovinto_places = 32
+    integer(c_size_t), parameter, public :: razovinto_row_most = 4096
     integer(c_size_t), parameter, public :: razovinto_block_size = 512
     integer(c_size_t), parameter, public :: razovinto_block_values = 55
 
@@ -153,6 +155,13 @@ module razovinto
     end type
     type, bind(c), public :: razovinto_level_to_field_answer
         integer(c_int64_t) :: place
+    end type
+
+    ! An operation of a row as the host keeps it: its kind, and left and right; for a power base and exponent, for a
+    ! logarithm base and argument. What stands in the seven bytes between `kind` and `left` isn't looked at.
+    type, bind(c), public :: razovinto_operation
+        integer(c_int8_t) :: kind
+        integer(c_int64_t) :: left, right
     end type
 
     ! Single operations. With 0 each of the first six has written sixteen bytes to `bytes`:
@@ -245,6 +254,46 @@ module razovinto
             integer(c_int64_t), value :: left, right
             integer(c_int64_t), intent(inout) :: number(*)
             integer(c_size_t), value :: length
+            integer(c_int32_t) :: refusal
+        end function
+    end interface
+
+    ! A row is up to 4,096 single operations in one call. What operation i comes to is element i of three lists, and
+    ! equal to what its own function gives:
+    !
+    !     numbers(i)    the number
+    !     marks(i)      the mark: 0, the number fits 64 bits; 1, it is overflowed, and numbers(i) is 0
+    !     codes(i)      0
+    !
+    ! A refused operation has the number 0, the mark 0 and the refusal as its code: razovinto_unknown_kind for a kind
+    ! that isn't from razovinto_kind_sum to razovinto_kind_logarithm, razovinto_divisor_zero or
+    ! razovinto_base_below_two. The row goes on with the next. What the three lists have past the last operation stays.
+    ! The row itself is refused for its counts alone, and then nothing is written.
+    interface
+        ! A row of plain lists: operation i has kinds(i), lefts(i) and rights(i). Refused with razovinto_lengths_differ
+        ! where these three lists differ in length, then with razovinto_item_count for 0 operations or above
+        ! razovinto_row_most, then with razovinto_list_too_short where one of the lists that are written has fewer
+        ! elements than the row.
+        function razovinto_row(kinds, kind_count, lefts, left_count, rights, right_count, numbers, number_count, &
+            marks, mark_count, codes, code_count) bind(c, name='razovinto_row') result(refusal)
+            import :: c_int8_t, c_int32_t, c_int64_t, c_size_t
+            integer(c_int8_t), intent(in) :: kinds(*)
+            integer(c_int64_t), intent(in) :: lefts(*), rights(*)
+            integer(c_int64_t), intent(inout) :: numbers(*)
+            integer(c_int8_t), intent(inout) :: marks(*), codes(*)
+            integer(c_size_t), value :: kind_count, left_count, right_count, number_count, mark_count, code_count
+            integer(c_int32_t) :: refusal
+        end function
+
+        ! The same row from a list of records, each read where it lies. Refused with razovinto_item_count,
+        ! razovinto_list_too_short.
+        function razovinto_row_of_records(operations, operation_count, numbers, number_count, marks, mark_count, &
+            codes, code_count) bind(c, name='razovinto_row_of_records') result(refusal)
+            import :: c_int8_t, c_int32_t, c_int64_t, c_size_t, razovinto_operation
+            type(razovinto_operation), intent(in) :: operations(*)
+            integer(c_int64_t), intent(inout) :: numbers(*)
+            integer(c_int8_t), intent(inout) :: marks(*), codes(*)
+            integer(c_size_t), value :: operation_count, number_count, mark_count, code_count
             integer(c_int32_t) :: refusal
         end function
     end interface
@@ -443,9 +492,9 @@ contains
         case (razovinto_lengths_differ)
             text = 'lists that differ in length'
         case (razovinto_item_count)
-            text = 'recipe of 0 items or above 256'
+            text = 'recipe of 0 items or above 256, or row of 0 operations or above 4,096'
         case (razovinto_unknown_kind)
-            text = 'unknown kind, or operation with a number not 0'
+            text = 'unknown kind, literal in a row, or operation with a number not 0'
         case (razovinto_literal_too_large)
             text = 'literal too large for the width'
         case (razovinto_too_few_on_hand)

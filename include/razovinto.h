@@ -1,5 +1,5 @@
-/* Razovinto for hosts written in C and C++: checked arithmetic on numbers of 64 bits, recipes, fields, blocks
- * and levels of raw floats.
+/* Razovinto for hosts written in C and C++: checked arithmetic on numbers of 64 bits, recipes, rows of operations,
+ * fields, blocks and levels of raw floats.
  *
  * Every entry takes any input and asks nothing of it: where something is wrong, it returns a refusal's number, and 0
  * otherwise. A lent list is a pointer and a count of elements. An entry keeps nothing from one call to the next, and
@@ -13,9 +13,9 @@
 #include <stddef.h>
 #include <stdint.h>
 
-#define RAZOVINTO_VERSION "4.4.0"
+#define RAZOVINTO_VERSION "4.5.0"
 #define RAZOVINTO_VERSION_MAJOR 4
-#define RAZOVINTO_VERSION_MINOR 4
+#define RAZOVINTO_VERSION_MINOR 5
 #define RAZOVINTO_VERSION_PATCH 0
 
 /* The refusals. Not every one has an entry here that gives it yet. */
@@ -59,8 +59,8 @@ static inline const char *razovinto_refusal_text(uint32_t refusal)
         "signed quotient that doesn't fit",
         "width not 8, 16, 32 or 64",
         "lists that differ in length",
-        "recipe of 0 items or above 256",
-        "unknown kind, or operation with a number not 0",
+        "recipe of 0 items or above 256, or row of 0 operations or above 4,096",
+        "unknown kind, literal in a row, or operation with a number not 0",
         "literal too large for the width",
         "operation with fewer than two values on hand",
         "literal that would be the 33rd on hand",
@@ -214,6 +214,54 @@ uint32_t razovinto_run(uint64_t width, const uint8_t *kinds, size_t kind_count, 
 /* Whether a recipe is well formed at a width; refused as above for its shape. */
 uint32_t razovinto_shape(uint64_t width, const uint8_t *kinds, size_t kind_count, const uint64_t *numbers,
                          size_t number_count, uint64_t *answer, size_t length);
+
+/* ---- Rows
+ *
+ * A row is up to 4,096 single operations in one call. An operation has one of a recipe's kinds, from RAZOVINTO_SUM to
+ * RAZOVINTO_LOGARITHM, and two numbers, left and right: of a power base and exponent, of a logarithm base and argument.
+ *
+ * What operation i comes to is element i of three lists, and equal to what its own entry gives:
+ *
+ *     numbers[i]    the number
+ *     marks[i]      the mark: 0, the number fits 64 bits; 1, it is overflowed, and numbers[i] is 0
+ *     codes[i]      0
+ *
+ * A refused operation has the number 0, the mark 0 and the refusal as its code: RAZOVINTO_UNKNOWN_KIND for any other
+ * kind, RAZOVINTO_DIVISOR_ZERO or RAZOVINTO_BASE_BELOW_TWO. The row goes on with the next. What the three lists have
+ * past the last operation stays.
+ *
+ * The row itself is refused for its counts alone, and then nothing is written.
+ */
+
+/* How many operations a row may have. */
+#define RAZOVINTO_ROW_MOST 4096
+
+/* An operation as the host keeps it. What stands in the seven bytes between `kind` and `left` isn't looked at. */
+struct razovinto_operation {
+    uint8_t kind;
+    uint64_t left;
+    uint64_t right;
+};
+
+/* A row of plain lists: operation i has kinds[i], lefts[i] and rights[i]. Refused with RAZOVINTO_LENGTHS_DIFFER where
+ * these three lists differ in length, then with RAZOVINTO_ITEM_COUNT for 0 operations or above RAZOVINTO_ROW_MOST, then
+ * with RAZOVINTO_LIST_TOO_SHORT where one of the lists that are written has fewer elements than the row. */
+uint32_t razovinto_row(const uint8_t *kinds, size_t kind_count, const uint64_t *lefts, size_t left_count,
+                       const uint64_t *rights, size_t right_count, uint64_t *numbers, size_t number_count,
+                       uint8_t *marks, size_t mark_count, uint8_t *codes, size_t code_count);
+
+/* The same row from a list of records, each read where it lies:
+ *
+ *     struct razovinto_operation operations[] = {{RAZOVINTO_SUM, 270, 11}, {RAZOVINTO_QUOTIENT, 7, 0}};
+ *     uint64_t numbers[2];
+ *     uint8_t marks[2], codes[2];
+ *     if (razovinto_row_of_records(operations, 2, numbers, 2, marks, 2, codes, 2) == 0 && codes[1] != 0)
+ *         puts(razovinto_refusal_text(codes[1]));
+ *
+ * Refused with RAZOVINTO_ITEM_COUNT, RAZOVINTO_LIST_TOO_SHORT. */
+uint32_t razovinto_row_of_records(const struct razovinto_operation *operations, size_t operation_count,
+                                  uint64_t *numbers, size_t number_count, uint8_t *marks, size_t mark_count,
+                                  uint8_t *codes, size_t code_count);
 
 /* ---- Fields
  *

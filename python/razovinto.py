@@ -1,4 +1,5 @@
-"""Razovinto from Python: checked arithmetic on numbers of 64 bits, recipes, fields, blocks and levels of raw floats.
+"""Razovinto from Python: checked arithmetic on numbers of 64 bits, recipes, rows of operations, fields, blocks and
+levels of raw floats.
 
 One file over the proved shared library, by ctypes; it needs CPython 3.9 or later and no package.
 
@@ -16,10 +17,14 @@ parameter. An overflowed value is `OVERFLOWED`.
 
 Lists. A list that is only read may be anything with whole numbers in it. bytes, bytearray, array, memoryview, mmap and
 numpy arrays are lent with no copy where their items have the right type (unsigned, of 64 bits for numbers; of 8 bits,
-or bool, for kinds, marks and blocks), lie one after the other and are aligned; an array of several dimensions then
-counts as its items in order. Everything else is copied number by number, and each is looked at: a float is a
+or bool, for kinds, marks, codes and blocks), lie one after the other and are aligned; an array of several dimensions
+then counts as its items in order. Everything else is copied number by number, and each is looked at: a float is a
 TypeError, a number below 0 or too large an OverflowError. So nothing is ever cast. A list that is written must be one
 that can be lent, since a copy would not reach the caller. Nobody may write to a lent list during a call.
+
+Operations of a row may stand in records. `Operation * n` is a ctypes array of n of them, and numpy takes Operation as a
+dtype. Both are lent with no copy, and so is every structured array whose kind, left and right lie as Operation's do,
+one record after the other and aligned to 8. Other records are copied, and each number is looked at.
 
 Readings are 32-bit floats, and lent with no copy where they are float32. Of other lists each is looked at and copied: a
 number that 32 bits don't hold exactly is a ValueError, so that nothing is rounded either. Bytes are no list of
@@ -32,26 +37,29 @@ from __future__ import annotations
 
 import ctypes
 import enum
+import functools
 import operator
 import os
 import sys
 from array import array
 from typing import Any, Iterable, List, NamedTuple, Optional, Sequence, Tuple, Union
 
-__version__ = "4.4.0"
+__version__ = "4.5.0"
 
 __all__ = [
-    "BLOCK_SIZE", "BLOCK_VALUES", "Block", "Extent", "Field", "Found", "KINDS", "OVERFLOWED", "Overflowed", "PLACES",
-    "Range", "Refusal", "Refused", "Run", "State", "WithinLogarithm", "WithinPower", "level_scan", "level_to_field",
-    "logarithm", "power", "power_fits", "product", "quotient", "read", "read_run", "refusal_text", "remainder", "run",
-    "scan", "search", "shape", "signed_quotient", "signed_remainder", "sound", "sum", "write",
+    "BLOCK_SIZE", "BLOCK_VALUES", "Block", "Extent", "Field", "Found", "KINDS", "OVERFLOWED", "Operation", "Overflowed",
+    "PLACES", "ROW_MOST", "Range", "Refusal", "Refused", "Row", "Run", "State", "WithinLogarithm", "WithinPower",
+    "level_scan", "level_to_field", "logarithm", "power", "power_fits", "product", "quotient", "read", "read_run",
+    "refusal_text", "remainder", "row", "row_of_records", "run", "scan", "search", "shape", "signed_quotient",
+    "signed_remainder", "sound", "sum", "write",
 ]
 
 BLOCK_SIZE = 512  # bytes of a block
 BLOCK_VALUES = 55  # values that a block has at most
 PLACES = 32  # values that may be on hand
+ROW_MOST = 4096  # operations that a row may have
 
-# The kinds of a recipe's items, by number.
+# The kinds of a recipe's items, by number; from 1 on also of a row's operations.
 KINDS = ("literal", "sum", "product", "quotient", "remainder", "power", "logarithm")
 
 _MOST = 2**64 - 1
@@ -130,8 +138,8 @@ _TEXTS = (
     "signed quotient that doesn't fit",
     "width not 8, 16, 32 or 64",
     "lists that differ in length",
-    "recipe of 0 items or above 256",
-    "unknown kind, or operation with a number not 0",
+    "recipe of 0 items or above 256, or row of 0 operations or above 4,096",
+    "unknown kind, literal in a row, or operation with a number not 0",
     "literal too large for the width",
     "operation with fewer than two values on hand",
     "literal that would be the 33rd on hand",
@@ -212,6 +220,18 @@ class Run(NamedTuple):
     steps: int
 
 
+class Row(NamedTuple):
+    """What a row came to: element i of each list is of operation i.
+
+    A mark is 0 where the number fits, 1 where it is overflowed and the number 0. A code is 0, or the number of the
+    refusal where the operation was refused, and number and mark are 0 then.
+    """
+
+    numbers: Sequence[int]
+    marks: Sequence[int]
+    codes: Sequence[int]
+
+
 class Range(NamedTuple):
     """A field's least and greatest number, and its packing width.
 
@@ -270,6 +290,16 @@ def _values(numbers: Sequence[int], marks: Sequence[int]) -> List[Value]:
 
 
 # ---- The library
+
+
+class Operation(ctypes.Structure):
+    """An operation of a row as a host keeps it, in 24 bytes: kind at byte 0, left at 8, right at 16.
+
+    (Operation * 2)((1, 270, 11), (3, 7, 0)) is an array of two, and numpy.zeros(2, Operation) one of numpy's. What the
+    bytes between kind and left hold isn't looked at.
+    """
+
+    _fields_ = [("kind", ctypes.c_uint8), ("left", ctypes.c_uint64), ("right", ctypes.c_uint64)]
 
 
 class _ShapeAnswer(ctypes.Structure):
@@ -331,6 +361,8 @@ _ENTRIES = {
     "razovinto_signed_remainder": (*_SIGNED_PAIR, *_LIST),
     "razovinto_run": (ctypes.c_uint64, *_LIST, *_LIST, ctypes.c_uint64, *_LIST),
     "razovinto_shape": (ctypes.c_uint64, *_LIST, *_LIST, *_LIST),
+    "razovinto_row": (*_LIST, *_LIST, *_LIST, *_LIST, *_LIST, *_LIST),
+    "razovinto_row_of_records": (*_LIST, *_LIST, *_LIST, *_LIST),
     "razovinto_scan": (*_LIST, *_LIST, *_LIST),
     "razovinto_sound": _LIST,
     "razovinto_read": (*_LIST, *_LIST, *_LIST, *_LIST),
@@ -414,6 +446,7 @@ class _Items(NamedTuple):
 _BYTES = _Items("B", 1, "Bc?", 255)
 _NUMBERS = _Items("Q", 8, "QL", _MOST)
 _FLOATS = _Items("f", 4, "f", 0)
+_RECORDS = _Items("", ctypes.sizeof(Operation), "", 0)
 
 
 class _Buffer(ctypes.Structure):
@@ -454,7 +487,8 @@ class _Lent:
         self.parameters = self.address, self.count
 
     def aligned(self, items: _Items) -> bool:
-        return self.address % items.size == 0
+        """Whether it lies where such items must; of a record no field is larger than 8 bytes."""
+        return self.address % min(items.size, 8) == 0
 
     def give_back(self) -> None:
         _release_buffer(ctypes.byref(self._buffer))
@@ -563,6 +597,77 @@ def _lend(name: str, given: Any, items: _Items) -> _Lent:
     return _Lent(name, memoryview(array(items.letter, view.tobytes())), items)
 
 
+_FIELDS = tuple(name for name, _ in Operation._fields_)
+
+
+def _view_of_records(records: Any) -> Optional[memoryview]:
+    """The records' own memory, where they stand one after the other, each with its fields where Operation has them."""
+    if isinstance(records, ctypes.Array):
+        return memoryview(records) if records._type_ is Operation else None
+    numpy = sys.modules.get("numpy")
+    if numpy is None or not isinstance(records, numpy.ndarray) or not records.ndim or not records.flags.c_contiguous:
+        return None
+    own, given = numpy.dtype(Operation), records.dtype
+    if given.itemsize != own.itemsize or not set(_FIELDS) <= set(given.names or ()):
+        return None
+    alike = all(given.fields[name][:2] == own.fields[name][:2] for name in _FIELDS)
+    # Seen as operations, so that other fields between them don't count.
+    return memoryview(records.view(own, numpy.ndarray)) if alike else None
+
+
+def _fields_of(place: int, record: Any) -> Tuple[Any, Any, Any]:
+    """Kind, left and right of a record in a list."""
+    numpy = sys.modules.get("numpy")
+    if isinstance(record, ctypes.Structure) and all(hasattr(record, name) for name in _FIELDS):
+        return tuple(getattr(record, name) for name in _FIELDS)
+    if numpy is not None and isinstance(record, numpy.void) and set(_FIELDS) <= set(record.dtype.names or ()):
+        return tuple(record[name] for name in _FIELDS)
+    if isinstance(record, (tuple, list)) and len(record) == 3:
+        return tuple(record)
+    raise TypeError(f"records[{place}] is {record!r}, and must be a kind, left and right")
+
+
+def _columns(records: Any) -> Sequence[Any]:
+    """The kinds, lefts and rights of records in any form."""
+    names = getattr(getattr(records, "dtype", None), "names", None)
+    if names and records.ndim:
+        missing = [name for name in _FIELDS if name not in names]
+        if missing:
+            raise TypeError(f"records have no field {missing[0]!r}")
+        return [records[name] for name in _FIELDS]
+    if isinstance(records, (bytes, bytearray)):
+        raise TypeError("records is bytes, and must be operations; (Operation * n).from_buffer_copy(records) is n")
+    listed = _listed("records", records, what="operations")
+    return list(zip(*(_fields_of(place, record) for place, record in enumerate(listed)))) or [()] * 3
+
+
+def _copied_records(records: Any) -> ctypes.Array:
+    """The records' numbers, each looked at, in an array of their own."""
+    kinds, lefts, rights = _columns(records)
+    columns = (
+        _copied("the kind of records", _kinds("the kind of records", kinds), _BYTES),
+        _copied("the left of records", lefts, _NUMBERS),
+        _copied("the right of records", rights, _NUMBERS),
+    )
+    if len(set(map(len, columns))) > 1:
+        raise TypeError("records must have one kind, one left and one right each")
+    return (Operation * len(columns[0]))(*zip(*columns))
+
+
+def _lend_records(records: Any) -> _Lent:
+    """Lends a list of records that is only read: its own memory where that can be, otherwise a copy."""
+    if _is_masked(records):
+        raise TypeError("records is a masked array, and its mask would be passed over")
+    view = _view_of_records(records)
+    if view is None:
+        return _Lent("records", memoryview(_copied_records(records)), _RECORDS)
+    lent = _Lent("records", view, _RECORDS)
+    if lent.aligned(_RECORDS):
+        return lent
+    lent.give_back()
+    return _Lent("records", memoryview((Operation * lent.count).from_buffer_copy(view.tobytes())), _RECORDS)
+
+
 def _lend_to_write(name: str, given: Any, items: _Items) -> _Lent:
     """Lends a list that is written, which must be its own memory."""
     view = None if _is_masked(given) else _view(given, items)
@@ -582,6 +687,23 @@ def _see_apart(*lists: _Lent) -> None:
     for lower, upper in zip(in_order, in_order[1:]):
         if lower.address + lower.length > upper.address:
             raise ValueError(f"{lower.name} and {upper.name} share memory")
+
+
+@functools.lru_cache(maxsize=None)  # where it isn't, looking for it takes longer than a row
+def _numpy() -> Any:
+    """numpy, or None where it isn't."""
+    try:
+        import numpy
+    except ImportError:
+        return None
+    return numpy
+
+
+def _first(count: int, given: Any) -> Any:
+    """A lent list up to a count, in its own memory, so that all lists of an answer are as long as what they are of."""
+    if len(given) == count:
+        return given
+    return (memoryview(given) if isinstance(given, (array, bytearray)) else given)[:count]
 
 
 # ---- Single operations
@@ -747,6 +869,99 @@ def shape(width: int, recipe: Recipe) -> int:
     return answer.limit
 
 
+# ---- Rows
+
+
+def _kinds(name: str, kinds: Any) -> Any:
+    """A row's kinds with a number for each word. What can be lent has no words, and stays as it is."""
+    if isinstance(kinds, str):
+        raise TypeError(f"{name} is one text, and must be a list of kinds")
+    if _is_masked(kinds) or _view(kinds, _BYTES) is not None:
+        return kinds
+    return [
+        _kind(f"{name}[{place}]", kind) if isinstance(kind, str) else kind
+        for place, kind in enumerate(_listed(name, kinds))
+    ]
+
+
+def _kind(name: str, word: str) -> int:
+    if word not in KINDS[1:]:
+        raise ValueError(f"{name} is {word!r}, and must be a number or one of {', '.join(KINDS[1:])}")
+    return KINDS.index(word)
+
+
+def _row(entry: Any, operations: Sequence[_Lent], numbers: Any, marks: Any, codes: Any, plain: bool) -> Row:
+    """Calls an entry with lent operations, and gives the three lists that it wrote."""
+    count = operations[0].count
+    room = min(count, ROW_MOST)
+    own_numbers = array("Q", [0]) * room if numbers is None else numbers
+    own_marks = bytearray(room) if marks is None else marks
+    own_codes = bytearray(room) if codes is None else codes
+    with _lend_to_write("numbers", own_numbers, _NUMBERS) as lent_numbers:
+        with _lend_to_write("marks", own_marks, _BYTES) as lent_marks:
+            with _lend_to_write("codes", own_codes, _BYTES) as lent_codes:
+                written = lent_numbers, lent_marks, lent_codes
+                for lent in operations:
+                    _see_apart(lent, *written)
+                refusal = entry(*(part for lent in (*operations, *written) for part in lent.parameters))
+    if refusal:
+        raise Refused(refusal)
+    numpy = None if plain else _numpy()
+    return Row(
+        _made(numpy, own_numbers, "u8") if numbers is None else _first(count, numbers),
+        _made(numpy, own_marks, "u1") if marks is None else _first(count, marks),
+        _made(numpy, own_codes, "u1") if codes is None else _first(count, codes),
+    )
+
+
+def _made(numpy: Any, made: Any, letter: str) -> Any:
+    """A list of the module's own as a numpy array over its memory, or without numpy as an array or bytes."""
+    if numpy is not None:
+        return numpy.frombuffer(made, letter)
+    return bytes(made) if isinstance(made, bytearray) else made
+
+
+def row(
+    kinds: Any,
+    lefts: Any,
+    rights: Any,
+    numbers: Any = None,
+    marks: Any = None,
+    codes: Any = None,
+    plain: bool = False,
+) -> Row:
+    """Up to 4,096 single operations in one call, each equal to `sum`, `product` and so on of its left and right.
+
+    Operation i has kinds[i], lefts[i] and rights[i]: of a power base and exponent, of a logarithm base and argument. A
+    kind is a number, as KINDS counts them, or its word, as "sum". A refused operation raises nothing: its code is the
+    refusal's number, 8 for a kind that is none of the six, 1 for a divisor 0, 2 for a base below 2; number and mark are
+    0, and the row goes on with the next.
+
+    Lists that are lent as `numbers`, `marks` and `codes` are written up to the row's length, and stay as they are past
+    it. The answer has them up to that length: themselves, or of a longer one that part in its own memory. Where none is
+    lent, it has a numpy array of uint64 or uint8; where numpy isn't, or `plain` is true, an array or bytes.
+
+    The row is refused with 6, lists that differ in length, then 7, no operation or above 4,096, then 19, a lent list
+    that is shorter than the row. Lent lists stay as they are then.
+    """
+    with _lend("kinds", _kinds("kinds", kinds), _BYTES) as lent_kinds:
+        with _lend("lefts", lefts, _NUMBERS) as lent_lefts, _lend("rights", rights, _NUMBERS) as lent_rights:
+            operations = lent_kinds, lent_lefts, lent_rights
+            return _row(_library.razovinto_row, operations, numbers, marks, codes, plain)
+
+
+def row_of_records(
+    records: Any, numbers: Any = None, marks: Any = None, codes: Any = None, plain: bool = False
+) -> Row:
+    """The same row from a list of records, as a host keeps them: an array of `Operation`, which is lent with no copy,
+    or any other list of kinds, lefts and rights, as [("sum", 270, 11), (3, 7, 0)].
+
+    Refused with 7, no operation or above 4,096, then 19, a lent list that is shorter than the row.
+    """
+    with _lend_records(records) as lent:
+        return _row(_library.razovinto_row_of_records, [lent], numbers, marks, codes, plain)
+
+
 # ---- Fields
 
 
@@ -897,15 +1112,6 @@ def write(first: int, numbers: Any, marks: Any = None, run: Any = None) -> Union
     return own_run if run is None else answer.length
 
 
-def _numpy() -> Any:
-    """numpy, or None where it isn't."""
-    try:
-        import numpy
-    except ImportError:
-        return None
-    return numpy
-
-
 def search(run: Any) -> Optional[Found]:
     """The first overflowed value of a run of blocks, or None. Each block is looked at whole before its marks count.
 
@@ -926,13 +1132,6 @@ def search(run: Any) -> Optional[Found]:
 def _ground(count: int, ground: Any) -> Any:
     """The ground marks of so many readings; where none are given, all is air."""
     return bytes(count) if ground is None else ground
-
-
-def _first(count: int, given: Any) -> Any:
-    """A lent list up to a count, in its own memory, so that both lists of a field are as long as the level."""
-    if len(given) == count:
-        return given
-    return (memoryview(given) if isinstance(given, (array, bytearray)) else given)[:count]
 
 
 def level_scan(readings: Any, ground: Any = None) -> Extent:

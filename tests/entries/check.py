@@ -28,7 +28,6 @@ FUNCTION = re.compile(r'^(\s*)(?:#\[[^\]]*\]\s*)?pub (?:extern "C" )?fn ([A-Za-z
 METHODS_OF = re.compile(r"^impl ([A-Za-z_0-9]+) \{")
 OF_FUNCTION = re.compile(r"\| `[a-z_0-9]+::")
 DOORS = "\n## Doors\n"
-FOR_HOSTS = ("razovinto", "hosts", "floats")
 ENTRY = re.compile(r'^pub extern "C" fn ([a-z_0-9]+)', re.M)
 NAMING = ("README.md", "docs/ENTRIES.md", "docs/DECISIONS.md")
 DASHED = r"[a-z0-9^]+(?:-[a-z0-9^]+)+"
@@ -123,9 +122,11 @@ def door_faults(table, files):
     """Which function has no door and no word why, and which door isn't there."""
     rows = [cells_of(row) for row in table.split("\n") if row.startswith("| `")]
     columns = [{n for row in rows for n in re.findall(r"`([^`\s]+)`", row[i])} for i in range(3)]
-    libraries = [(c, m, text) for c, program, m, text in files if not program and c not in FOR_HOSTS]
-    functions = {full_name(c, m, owner, n) for c, m, text in libraries for owner, n, _ in public_functions(text)}
-    entries = {n for c, _, _, text in files if c in FOR_HOSTS for n in ENTRY.findall(text)}
+    libraries = [(c, m, text) for c, program, m, text in files if not program]
+    entries = {n for _, _, text in libraries for n in ENTRY.findall(text)}
+    functions = {
+        full_name(c, m, owner, n) for c, m, text in libraries for owner, n, _ in public_functions(text) if n not in entries
+    }
     header = read("include", "razovinto.h")
     faults = [
         f"{f} isn't among the doors" for f in sorted(functions) if not any(f == n or f.startswith(n + "::") for n in columns[0])

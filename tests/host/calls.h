@@ -45,5 +45,6 @@ void expect_call(const char *what, const struct call *call);
 void check_recipes(void);
 void check_blocks(void);
 void check_levels(void);
+void check_rows(void);
 
 #endif

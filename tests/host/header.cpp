@@ -2,6 +2,7 @@
 #include "razovinto.h"
 #include "razovinto.h"
 
+#include <cstddef>
 #include <cstdint>
 #include <cstring>
 
@@ -63,9 +64,33 @@ static bool levels()
         == RAZOVINTO_NOT_WHOLE && at.place == 2;
 }
 
+static_assert(offsetof(razovinto_operation, kind) == 0 && offsetof(razovinto_operation, left) == 8
+                  && offsetof(razovinto_operation, right) == 16 && sizeof(razovinto_operation) == 24,
+              "an operation lies as the library reads it");
+
+static bool rows()
+{
+    const razovinto_operation operations[] = {{RAZOVINTO_POWER, 2, 63}, {RAZOVINTO_SUM, UINT64_MAX, 1}, {0, 7, 2}};
+    const std::uint8_t kinds[] = {RAZOVINTO_POWER, RAZOVINTO_SUM, RAZOVINTO_LITERAL};
+    const std::uint64_t lefts[] = {2, UINT64_MAX, 7}, rights[] = {63, 1, 2};
+    std::uint64_t numbers[3], same_numbers[3];
+    std::uint8_t marks[3], codes[3], same_marks[3], same_codes[3];
+    if (razovinto_row_of_records(operations, 3, numbers, 3, marks, 3, codes, 3) != 0)
+        return false;
+    if (numbers[0] != UINT64_C(1) << 63 || marks[1] != 1 || codes[2] != RAZOVINTO_UNKNOWN_KIND)
+        return false;
+    if (razovinto_row(kinds, 3, lefts, 3, rights, 3, same_numbers, 3, same_marks, 3, same_codes, 3) != 0)
+        return false;
+    if (std::memcmp(numbers, same_numbers, sizeof numbers) != 0 || std::memcmp(marks, same_marks, 3) != 0
+        || std::memcmp(codes, same_codes, 3) != 0)
+        return false;
+    return razovinto_row(kinds, 2, lefts, 3, rights, 3, numbers, 3, marks, 3, codes, 3) == RAZOVINTO_LENGTHS_DIFFER
+        && razovinto_row_of_records(operations, 3, numbers, 3, marks, 3, codes, 2) == RAZOVINTO_LIST_TOO_SHORT;
+}
+
 int main()
 {
     if (std::strcmp(razovinto_refusal_text(RAZOVINTO_OVERFLOWED), "overflowed value where a number is needed") != 0)
         return 1;
-    return six() && answers() && blocks() && levels() ? 0 : 1;
+    return six() && answers() && blocks() && levels() && rows() ? 0 : 1;
 }

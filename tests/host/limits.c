@@ -1,5 +1,6 @@
 /* The entries beyond the six at their limits: the structs' layout, single numbers and fields here, recipes in
- * recipes.c, blocks in blocks.c, levels in levels.c. Ends with 1 at the first thing that is not as it must be.
+ * recipes.c, blocks in blocks.c, levels in levels.c, rows in rows.c. Ends with 1 at the first thing that is not as it
+ * must be.
  */
 #include "calls.h"
 #include "lent.h"
@@ -53,6 +54,10 @@ static void check_layout(void)
         {"extent", COUNT(extent), 1},
         {"extent.least", PLACE(extent, least), 0},
         {"extent.greatest", PLACE(extent, greatest), 0.5},
+        {"operation", COUNT(operation), 3},
+        {"operation.kind", PLACE(operation, kind), 0},
+        {"operation.left", PLACE(operation, left), 1},
+        {"operation.right", PLACE(operation, right), 2},
     };
     size_t i;
     for (i = 0; i < sizeof places / sizeof *places; i++)
@@ -166,6 +171,8 @@ int main(void)
     check_recipes();
     check_blocks();
     check_levels();
-    printf("limits: layout, power_fits, signed numbers, fields, recipes, blocks and levels are as they must be\n");
+    check_rows();
+    printf("limits: layout, power_fits, signed numbers, fields, recipes, blocks, levels and rows are as they must "
+           "be\n");
     return 0;
 }

@@ -1,7 +1,8 @@
 ! The entries beyond the six at their limits, as a host written in Fortran calls them. Ends with 1 at the first thing
 ! that is not as it must be. The C test, limits.c, has more of the same.
 program limits
-    use, intrinsic :: iso_c_binding, only: c_float, c_int8_t, c_int32_t, c_int64_t, c_size_t
+    use, intrinsic :: iso_c_binding, only: c_float, c_int8_t, c_int32_t, c_int64_t, c_intptr_t, c_loc, c_ptr, &
+        c_size_t, c_sizeof
     use, intrinsic :: iso_fortran_env, only: error_unit
     use razovinto
     implicit none
@@ -34,7 +35,11 @@ program limits
     call check_plateau()
     call check_level_to_field()
     call check_field_lengths()
-    print '(a)', 'limits: layout, power_fits, signed numbers, fields, recipes, blocks and levels are as they must be'
+    call check_operation_layout()
+    call check_rows()
+    call check_row_lengths()
+    print '(a, a)', 'limits: layout, power_fits, signed numbers, fields, recipes, blocks, levels and rows ', &
+        'are as they must be'
 
 contains
 
@@ -695,6 +700,142 @@ contains
             call expect(all(numbers == expected), "the numbers of a level's field")
             call expect(all(field_marks == expected_marks), "the marks of a level's field")
             call expect(all(transfer(readings, level) == level), "the bits of a level's readings that are turned")
+        end do
+    end subroutine
+
+    ! Rows, each by plain lists and by records.
+
+    ! A record lies as the library reads it: 24 bytes, its fields at 0, 8 and 16.
+    subroutine check_operation_layout()
+        type(razovinto_operation), target :: operations(2)
+        integer(c_intptr_t) :: start
+        start = address(c_loc(operations(1)))
+        call expect(c_sizeof(operations(1)) == 24, 'an operation has 24 bytes')
+        call expect(address(c_loc(operations(2))) - start == 24, 'operations lie one after the other')
+        call expect(address(c_loc(operations(1)%kind)) == start, 'a kind lies at 0')
+        call expect(address(c_loc(operations(1)%left)) - start == 8, 'a left lies at 8')
+        call expect(address(c_loc(operations(1)%right)) - start == 16, 'a right lies at 16')
+        call expect(razovinto_row_most == 4096, 'how many operations a row may have')
+    end subroutine
+
+    pure function address(pointer) result(number)
+        type(c_ptr), intent(in) :: pointer
+        integer(c_intptr_t) :: number
+        number = transfer(pointer, number)
+    end function
+
+    ! Operations, and the numbers, marks and codes that they come to. A byte from 128 on is below 0 here, as 255 is -1.
+    subroutine check_rows()
+        integer(c_int8_t), parameter :: kinds(16) = int([1, 1, 2, 2, 3, 3, 4, 4, 5, 5, 6, 6, 0, 7, -127, -1], c_int8_t)
+        integer(c_int64_t), parameter :: lefts(16) = [most - 1, most, most, 3_c_int64_t, most, 7_c_int64_t, most, &
+            0_c_int64_t, 2_c_int64_t, 3_c_int64_t, 2_c_int64_t, 1_c_int64_t, 1_c_int64_t, 7_c_int64_t, most, &
+            0_c_int64_t]
+        integer(c_int64_t), parameter :: rights(16) = [1_c_int64_t, 2_c_int64_t, 2_c_int64_t, 5_c_int64_t, &
+            10_c_int64_t, 0_c_int64_t, 10_c_int64_t, 0_c_int64_t, 63_c_int64_t, 41_c_int64_t, most, 5_c_int64_t, &
+            2_c_int64_t, 2_c_int64_t, most, 0_c_int64_t]
+        integer(c_int64_t), parameter :: numbers(16) = [most, 0_c_int64_t, 0_c_int64_t, 15_c_int64_t, &
+            1844674407370955161_c_int64_t, 0_c_int64_t, 5_c_int64_t, 0_c_int64_t, smallest, 0_c_int64_t, 63_c_int64_t, &
+            0_c_int64_t, 0_c_int64_t, 0_c_int64_t, 0_c_int64_t, 0_c_int64_t]
+        integer, parameter :: marks(16) = [0, 1, 1, 0, 0, 0, 0, 0, 0, 1, 0, 0, 0, 0, 0, 0]
+        integer, parameter :: codes(16) = [0, 0, 0, 0, 0, 1, 0, 1, 0, 0, 0, 2, 8, 8, 8, 8]
+        integer :: at
+        call row(kinds, lefts, rights, [16, 16, 16], 0, numbers, marks, codes)
+        call row(kinds, lefts, rights, [18, 17, 19], 0, numbers, marks, codes)
+        do at = 1, 16
+            call row(cshift(kinds, at), cshift(lefts, at), cshift(rights, at), [16, 16, 16], 0, cshift(numbers, at), &
+                cshift(marks, at), cshift(codes, at))
+            call row(kinds(at:at), lefts(at:at), rights(at:at), [1, 1, 1], 0, numbers(at:at), marks(at:at), &
+                codes(at:at))
+        end do
+        do at = 0, 15
+            call row(kinds, lefts, rights, [at, 16, 16], razovinto_list_too_short, numbers, marks, codes)
+            call row(kinds, lefts, rights, [16, at, 16], razovinto_list_too_short, numbers, marks, codes)
+            call row(kinds, lefts, rights, [16, 16, at], razovinto_list_too_short, numbers, marks, codes)
+        end do
+        call row(kinds(:15), lefts, rights, [0, 0, 0], razovinto_lengths_differ, numbers, marks, codes)
+        call row(kinds, lefts(:15), rights, [16, 16, 16], razovinto_lengths_differ, numbers, marks, codes)
+        call row(kinds, lefts, rights(:15), [16, 16, 16], razovinto_lengths_differ, numbers, marks, codes)
+        call row(kinds(:0), lefts(:0), rights(:1), [0, 0, 0], razovinto_lengths_differ, numbers, marks, codes)
+        call row(kinds(:0), lefts(:0), rights(:0), [0, 0, 0], razovinto_item_count, numbers, marks, codes)
+        call row(kinds(:0), lefts(:0), rights(:0), [3, 3, 3], razovinto_item_count, numbers, marks, codes)
+    end subroutine
+
+    subroutine check_row_lengths()
+        call check_row_length(1, 0, razovinto_list_too_short)
+        call check_row_length(55, 0, razovinto_list_too_short)
+        call check_row_length(4095, 0, razovinto_list_too_short)
+        call check_row_length(4096, 0, razovinto_list_too_short)
+        call check_row_length(4097, razovinto_item_count, razovinto_item_count)
+    end subroutine
+
+    ! A row of so many products, and a remainder by 0 at its end: what must be returned with room for it, and without.
+    subroutine check_row_length(count, with_room, without_room)
+        integer, intent(in) :: count
+        integer(c_int32_t), intent(in) :: with_room, without_room
+        integer(c_int8_t) :: kinds(count)
+        integer(c_int64_t) :: lefts(count), rights(count), numbers(count)
+        integer :: marks(count), codes(count), at
+        kinds = razovinto_kind_product
+        do at = 1, count
+            lefts(at) = at
+        end do
+        rights = lefts + 1
+        numbers = lefts * rights
+        marks = 0
+        codes = 0
+        kinds(count) = razovinto_kind_remainder
+        rights(count) = 0
+        numbers(count) = 0
+        codes(count) = razovinto_divisor_zero
+        call row(kinds, lefts, rights, [count, count, count], with_room, numbers, marks, codes)
+        call row(kinds, lefts, rights, [count + 1, count + 2, count + 3], with_room, numbers, marks, codes)
+        call row(kinds, lefts, rights, [count - 1, count, count], without_room, numbers, marks, codes)
+        call row(kinds, lefts, rights, [count, count - 1, count], without_room, numbers, marks, codes)
+        call row(kinds, lefts, rights, [count, count, count - 1], without_room, numbers, marks, codes)
+    end subroutine
+
+    ! A row into lists of so many numbers, marks and codes, with guards before and after; where the three lists are
+    ! equally long also by records.
+    subroutine row(kinds, lefts, rights, rooms, refusal, numbers, marks, codes)
+        integer(c_int8_t), intent(in) :: kinds(:)
+        integer(c_int64_t), intent(in) :: lefts(:), rights(:), numbers(:)
+        integer, intent(in) :: rooms(3), marks(:), codes(:)
+        integer(c_int32_t), intent(in) :: refusal
+        type(razovinto_operation) :: operations(size(kinds))
+        integer(c_int64_t) :: own_numbers(0:rooms(1) + 1), expected(0:rooms(1) + 1)
+        integer(c_int8_t) :: own_marks(0:rooms(2) + 1), expected_marks(0:rooms(2) + 1)
+        integer(c_int8_t) :: own_codes(0:rooms(3) + 1), expected_codes(0:rooms(3) + 1)
+        integer(c_int32_t) :: code
+        integer :: way, count
+        count = merge(size(kinds), 0, refusal == 0)
+        expected = 7777777
+        expected_marks = 9
+        expected_codes = 10
+        expected(1:count) = numbers(:count)
+        expected_marks(1:count) = int(marks(:count), c_int8_t)
+        expected_codes(1:count) = int(codes(:count), c_int8_t)
+        do way = 1, merge(2, 1, size(kinds) == size(lefts) .and. size(kinds) == size(rights))
+            own_numbers = 7777777
+            own_marks = 9
+            own_codes = 10
+            if (way == 1) then
+                code = razovinto_row(kinds, size(kinds, kind=c_size_t), lefts, size(lefts, kind=c_size_t), rights, &
+                    size(rights, kind=c_size_t), own_numbers(1:), int(rooms(1), c_size_t), own_marks(1:), &
+                    int(rooms(2), c_size_t), own_codes(1:), int(rooms(3), c_size_t))
+            else
+                operations%kind = kinds
+                operations%left = lefts
+                operations%right = rights
+                code = razovinto_row_of_records(operations, size(operations, kind=c_size_t), own_numbers(1:), &
+                    int(rooms(1), c_size_t), own_marks(1:), int(rooms(2), c_size_t), own_codes(1:), &
+                    int(rooms(3), c_size_t))
+                call expect(all(operations%kind == kinds) .and. all(operations%left == lefts) .and. &
+                    all(operations%right == rights), 'the operations of a row stay')
+            end if
+            call expect(code == refusal, 'what a row returns')
+            call expect(all(own_numbers == expected), 'the numbers of a row')
+            call expect(all(own_marks == expected_marks), 'the marks of a row')
+            call expect(all(own_codes == expected_codes), 'the codes of a row')
         end do
     end subroutine
 

@@ -26,11 +26,12 @@ static struct {
     int row, kind;
     uint32_t first;
     uint64_t width, allowance, left, right;
-    size_t reading_count, byte_count, number_count, mark_count;
+    size_t reading_count, byte_count, left_count, right_count, number_count, mark_count, code_count;
     uint32_t readings[FIELD]; /* the floats' bits: no float is ever loaded here, which might change a NaN */
     uint8_t bytes[RUN];
+    uint64_t lefts[FIELD], rights[FIELD];
     uint64_t numbers[FIELD];
-    uint8_t marks[FIELD];
+    uint8_t marks[FIELD], codes[FIELD];
 } given;
 
 static char line[LINE];
@@ -179,6 +180,25 @@ static void take_level_to_field(void)
     fill_lists(byte_before);
 }
 
+/* The operations, whose kinds stand in `bytes`. */
+static void take_row(void)
+{
+    size_t i;
+    given.byte_count = take_count(2, FIELD);
+    given.left_count = take_count(2, FIELD);
+    given.right_count = take_count(2, FIELD);
+    given.number_count = take_count(2, FIELD);
+    given.mark_count = take_count(2, FIELD);
+    given.code_count = take_count(2, FIELD);
+    take_bytes(given.bytes, given.byte_count);
+    for (i = 0; i < given.left_count; i++)
+        given.lefts[i] = take(8);
+    for (i = 0; i < given.right_count; i++)
+        given.rights[i] = take(8);
+    fill_lists(byte_before);
+    memset(given.codes, byte_before, given.code_count);
+}
+
 /* Reads a case; 0 at the end. */
 static int take_case(void)
 {
@@ -218,6 +238,9 @@ static int take_case(void)
         break;
     case 11:
         take_level_to_field();
+        break;
+    case 12:
+        take_row();
         break;
     default:
         stop(2, "no entry for its first byte");
@@ -411,11 +434,14 @@ static void call_search(size_t guard)
     put(found.within);
 }
 
+typedef uint32_t operation_entry(uint64_t left, uint64_t right, uint8_t *result, size_t length);
+
+/* In the order of the kinds, from 1 on. */
+static operation_entry *const entries[] = {NULL, razovinto_sum, razovinto_product, razovinto_quotient,
+                                           razovinto_remainder, razovinto_power, razovinto_logarithm};
+
 static void call_operation(size_t guard)
 {
-    typedef uint32_t entry(uint64_t left, uint64_t right, uint8_t *result, size_t length);
-    static entry *const entries[] = {NULL, razovinto_sum, razovinto_product, razovinto_quotient, razovinto_remainder,
-                                     razovinto_power, razovinto_logarithm};
     struct lent result = lend_bytes(NULL, RAZOVINTO_RESULT_SIZE, guard);
     uint32_t code = entries[given.kind](given.left, given.right, start_of(&result), RAZOVINTO_RESULT_SIZE);
     put(code);
@@ -575,6 +601,101 @@ static void call_level_to_field(size_t guard)
     back(&marks, written);
 }
 
+/* The three lists that a row is written to. */
+struct results { struct lent numbers, marks, codes; };
+
+static struct results lend_results(size_t guard)
+{
+    struct results results = {lend(given.numbers, given.number_count * 8, guard),
+                              lend_bytes(given.marks, given.mark_count, guard),
+                              lend_bytes(given.codes, given.code_count, guard)};
+    return results;
+}
+
+static void results_back(struct results *results, size_t written)
+{
+    back(&results->numbers, written * 8);
+    back(&results->marks, written);
+    back(&results->codes, written);
+}
+
+static int same_list(const struct lent *one, const struct lent *other)
+{
+    return one->size == 0 || memcmp(start_of(one), start_of(other), one->size) == 0;
+}
+
+/* The same operations as records must give the same, whatever stands between their fields. */
+static void call_row_of_records(uint32_t code, const struct results *row, size_t guard)
+{
+    static struct razovinto_operation operations[FIELD];
+    struct results results = lend_results(guard);
+    struct lent lent;
+    size_t i;
+    for (i = 0; i < given.byte_count; i++) {
+        memset(operations + i, (int)(case_number + i) % 256, sizeof *operations);
+        memcpy((uint8_t *)(operations + i) + offsetof(struct razovinto_operation, kind), given.bytes + i, 1);
+        memcpy((uint8_t *)(operations + i) + offsetof(struct razovinto_operation, left), given.lefts + i, 8);
+        memcpy((uint8_t *)(operations + i) + offsetof(struct razovinto_operation, right), given.rights + i, 8);
+    }
+    lent = lend(operations, given.byte_count * sizeof *operations, guard);
+    if (razovinto_row_of_records(start_of(&lent), given.byte_count, start_of(&results.numbers), given.number_count,
+                                 start_of(&results.marks), given.mark_count, start_of(&results.codes), given.code_count)
+        != code)
+        stop(1, "records are refused otherwise than plain lists");
+    if (!same_list(&results.numbers, &row->numbers) || !same_list(&results.marks, &row->marks)
+        || !same_list(&results.codes, &row->codes))
+        stop(1, "records give other lists than plain lists");
+    back(&lent, 0);
+    results_back(&results, code ? 0 : given.byte_count);
+}
+
+/* Each element must be what the operation's own entry gives. */
+static void expect_single_operations(const struct results *row)
+{
+    uint8_t result[RAZOVINTO_RESULT_SIZE], mark, code;
+    uint64_t number;
+    size_t i;
+    for (i = 0; i < given.byte_count; i++) {
+        int kind = given.bytes[i], known = kind >= RAZOVINTO_SUM && kind <= RAZOVINTO_LOGARITHM;
+        uint32_t refusal = known ? entries[kind](given.lefts[i], given.rights[i], result, sizeof result)
+                                 : RAZOVINTO_UNKNOWN_KIND;
+        memcpy(&number, (uint8_t *)start_of(&row->numbers) + 8 * i, 8);
+        mark = ((uint8_t *)start_of(&row->marks))[i];
+        code = ((uint8_t *)start_of(&row->codes))[i];
+        if (code != refusal || number != (refusal ? 0 : razovinto_number(result))
+            || mark != (refusal ? 0 : razovinto_overflowed(result)))
+            stop(1, "an element is another than the single operation's");
+    }
+}
+
+static void call_row(size_t guard)
+{
+    struct lent kinds = lend_bytes(given.bytes, given.byte_count, guard);
+    struct lent lefts = lend(given.lefts, given.left_count * 8, guard);
+    struct lent rights = lend(given.rights, given.right_count * 8, guard);
+    struct results results = lend_results(guard);
+    uint32_t code = razovinto_row(start_of(&kinds), given.byte_count, start_of(&lefts), given.left_count,
+                                  start_of(&rights), given.right_count, start_of(&results.numbers), given.number_count,
+                                  start_of(&results.marks), given.mark_count, start_of(&results.codes),
+                                  given.code_count);
+    size_t written = code ? 0 : given.byte_count;
+    if (written > given.number_count || written > given.mark_count || written > given.code_count)
+        stop(1, "a row that there is no room for");
+    put(code);
+    put(0);
+    put_numbers(&results.numbers);
+    put_bytes(&results.marks, given.mark_count);
+    put_bytes(&results.codes, given.code_count);
+    if (given.byte_count == given.left_count && given.byte_count == given.right_count)
+        call_row_of_records(code, &results, guard);
+    if (code == 0)
+        expect_single_operations(&results);
+    back(&kinds, 0);
+    back(&lefts, 0);
+    back(&rights, 0);
+    results_back(&results, written);
+}
+
 /* The case's line, from lists between guards of so many bytes. */
 static void call(size_t guard)
 {
@@ -606,6 +727,9 @@ static void call(size_t guard)
         break;
     case 11:
         call_level_to_field(guard);
+        break;
+    case 12:
+        call_row(guard);
         break;
     default:
         put(razovinto_power_fits(given.left, given.right));

@@ -246,6 +246,8 @@ contains
             call call_level_scan()
         case (11)
             call call_level_to_field()
+        case (12)
+            call call_row()
         case default
             call halt('no entry for its first byte', .true.)
         end select
@@ -518,6 +520,86 @@ contains
             call put_byte(marks(at))
         end do
     end subroutine
+
+    subroutine call_row()
+        integer(c_size_t) :: kind_count, left_count, right_count, number_count, mark_count, code_count, count
+        integer(c_int8_t), allocatable :: kinds(:), marks(:), codes(:)
+        integer(c_int8_t), allocatable :: kinds_before(:), marks_before(:), codes_before(:)
+        integer(c_int64_t), allocatable :: lefts(:), rights(:), numbers(:)
+        integer(c_int64_t), allocatable :: lefts_before(:), rights_before(:), numbers_before(:)
+        integer(c_int32_t) :: refusal
+        integer :: at
+        kind_count = taken_count(2, longest_field)
+        left_count = taken_count(2, longest_field)
+        right_count = taken_count(2, longest_field)
+        number_count = taken_count(2, longest_field)
+        mark_count = taken_count(2, longest_field)
+        code_count = taken_count(2, longest_field)
+        call take_byte_list(kind_count, kinds)
+        call take_number_list(left_count, lefts)
+        call take_number_list(right_count, rights)
+        call lend_numbers(number_count, number_before, numbers)
+        call lend_bytes(mark_count, byte_before, marks)
+        call lend_bytes(code_count, byte_before, codes)
+        kinds_before = kinds
+        lefts_before = lefts
+        rights_before = rights
+        numbers_before = numbers
+        marks_before = marks
+        codes_before = codes
+        refusal = razovinto_row(kinds(1), kind_count, lefts(1), left_count, rights(1), right_count, numbers(1), &
+            number_count, marks(1), mark_count, codes(1), code_count)
+        call expect(all(kinds == kinds_before) .and. all(lefts == lefts_before) .and. all(rights == rights_before))
+        count = merge(kind_count, 0_c_size_t, refusal == 0)
+        if (count > min(number_count, mark_count, code_count)) call halt('a row that there is no room for', .false.)
+        call expect(all(numbers(:0) == numbers_before(:0)) .and. all(numbers(count + 1:) == numbers_before(count + 1:)))
+        call expect(all(marks(:0) == marks_before(:0)) .and. all(marks(count + 1:) == marks_before(count + 1:)))
+        call expect(all(codes(:0) == codes_before(:0)) .and. all(codes(count + 1:) == codes_before(count + 1:)))
+        if (kind_count == left_count .and. kind_count == right_count) then
+            call call_row_of_records(kinds, lefts, rights, refusal, numbers_before, marks_before, codes_before)
+            if (any(numbers_before /= numbers) .or. any(marks_before /= marks) .or. any(codes_before /= codes)) &
+                call halt('records give other lists than plain lists', .false.)
+        end if
+        call put_refusal(refusal)
+        call put(0_c_int64_t)
+        do at = 1, int(number_count)
+            call put(numbers(at))
+        end do
+        do at = 1, int(mark_count)
+            call put_byte(marks(at))
+        end do
+        do at = 1, int(code_count)
+            call put_byte(codes(at))
+        end do
+    end subroutine
+
+    ! The same operations as records, guards too, into lists as they were before the call. It must be refused as the row
+    ! of plain lists was.
+    subroutine call_row_of_records(kinds, lefts, rights, refusal, numbers, marks, codes)
+        integer(c_int8_t), allocatable, intent(in) :: kinds(:)
+        integer(c_int64_t), allocatable, intent(in) :: lefts(:), rights(:)
+        integer(c_int32_t), intent(in) :: refusal
+        integer(c_int64_t), allocatable, intent(inout) :: numbers(:)
+        integer(c_int8_t), allocatable, intent(inout) :: marks(:), codes(:)
+        type(razovinto_operation), allocatable :: operations(:)
+        integer(c_int32_t) :: code
+        allocate (operations(lbound(kinds, 1):ubound(kinds, 1)))
+        operations%kind = kinds
+        operations%left = lefts
+        operations%right = rights
+        code = razovinto_row_of_records(operations(1), without_guards(size(operations)), numbers(1), &
+            without_guards(size(numbers)), marks(1), without_guards(size(marks)), codes(1), without_guards(size(codes)))
+        if (code /= refusal) call halt('records are refused otherwise than plain lists', .false.)
+        call expect(all(operations%kind == kinds) .and. all(operations%left == lefts) .and. &
+            all(operations%right == rights))
+    end subroutine
+
+    ! How many elements of a list are lent.
+    pure function without_guards(all) result(count)
+        integer, intent(in) :: all
+        integer(c_size_t) :: count
+        count = all - 2 * guard
+    end function
 
     ! A number below 2**32 as an integer that has its binary digits.
     pure function as_32_digits(number) result(digits)

@@ -4,12 +4,13 @@
     tests/python/agree.py [--seed N]
 
 The cases are those of tests/second/fresh.py that the module has a function for: runs, scans, reads, searches, writes,
-single operations on fitting numbers of 64 bits, signed ones of 64 bits, power-fits, and levels. Each list is given in
-some form: a list, bytes, an array, memory that is only to be read, memory within a larger array, and with numpy an
-array of the right type, of another type, of several dimensions, or with gaps. Ends with 1 at the first case that
-differs.
+single operations on fitting numbers of 64 bits, signed ones of 64 bits, power-fits, levels, and rows, these also as
+records. Each list is given in some form: a list, bytes, an array, memory that is only to be read, memory within a
+larger array, and with numpy an array of the right type, of another type, of several dimensions, or with gaps. Ends with
+1 at the first case that differs.
 """
 import argparse
+import ctypes
 import struct
 import sys
 import time
@@ -31,7 +32,7 @@ except ImportError:
     numpy = None
 
 # How many random cases of each row.
-RANDOM = (3000, 1500, 1500, 500, 3000, 2000, 1000, 0, 600, 1500, 1500)
+RANDOM = (3000, 1500, 1500, 500, 3000, 2000, 1000, 0, 600, 1500, 1500, 600)
 GUARD = 3
 
 
@@ -79,7 +80,7 @@ def floats(bits):
 
 
 def in_rows(given):
-    """The same floats in an array of two dimensions, where they can stand so."""
+    """The same items in an array of two dimensions, where they can stand so."""
     return given.reshape(2, -1) if given.size % 2 == 0 else given.reshape(1, -1)
 
 
@@ -108,7 +109,65 @@ def float_forms():
         yield lambda bits: numpy.asfortranarray(in_rows(of_floats("f4")(bits)))
 
 
+def in_words(kinds):
+    """The words of kinds that have one."""
+    return [model.KIND_WORDS[kind] if 0 < kind < len(model.KIND_WORDS) else kind for kind in kinds]
+
+
+def structured(kinds, lefts, rights, fields, **layout):
+    """A numpy array of records of other types, or that lie in another way."""
+    records = numpy.zeros(len(kinds), numpy.dtype(fields, **layout))
+    records["kind"], records["left"], records["right"] = list(kinds), list(lefts), list(rights)
+    return records
+
+
+def own_records(*row):
+    return structured(*row, razovinto.Operation)
+
+
+def record_gaps(*row):
+    apart = numpy.full(2 * len(row[0]), 7, razovinto.Operation)
+    apart[::2] = own_records(*row)
+    return apart[::2]
+
+
+def askew_records(*row):
+    """Operations one byte off an aligned place."""
+    raw = numpy.zeros(ctypes.sizeof(razovinto.Operation) * len(row[0]) + 1, "u1")
+    records = raw[1:].view(numpy.dtype(razovinto.Operation))
+    records[:] = own_records(*row)
+    return records
+
+
+class Other(ctypes.Structure):
+    _fields_ = [("right", ctypes.c_uint64), ("left", ctypes.c_uint64), ("kind", ctypes.c_uint16)]
+
+
+def record_forms():
+    """What takes the kinds, lefts and rights of equally many operations."""
+    yield lambda *row: list(zip(*row))
+    yield lambda *row: tuple(map(list, zip(*row)))
+    yield lambda kinds, *numbers: list(zip(in_words(kinds), *numbers))
+    yield lambda *row: (razovinto.Operation * len(row[0]))(*zip(*row))
+    yield lambda *row: [razovinto.Operation(*each) for each in zip(*row)]
+    yield lambda *row: (Other * len(row[0]))(*zip(*row[::-1]))
+    if numpy:
+        packed = [("kind", "u1"), ("left", "u8"), ("right", "u8")]
+        swapped = [("right", ">u8"), ("kind", "i2"), ("left", ">u8")]
+        flagged = [("kind", "u1"), ("flag", "u4"), ("left", "u8"), ("right", "u8")]
+        yield from (own_records, record_gaps, askew_records)
+        yield lambda *row: list(own_records(*row))
+        yield lambda *row: in_rows(own_records(*row)) if row[0] else []
+        yield lambda *row: numpy.asfortranarray(in_rows(own_records(*row))) if row[0] else []
+        yield lambda *row: numpy.rec.array(own_records(*row))
+        yield lambda *row: structured(*row, packed)
+        yield lambda *row: structured(*row, swapped)
+        yield lambda *row: structured(*row, flagged, align=True)
+        yield lambda *row: structured(*row, [("kind", "O"), ("left", "O"), ("right", "O")])
+
+
 BYTE_FORMS, NUMBER_FORMS, FLOAT_FORMS = tuple(byte_forms()), tuple(number_forms()), tuple(float_forms())
+KIND_FORMS, RECORD_FORMS = (*BYTE_FORMS, in_words), tuple(record_forms())
 
 
 # A case's lines: the model's, and what the module gives
@@ -189,24 +248,23 @@ def scan_lines(dice, case):
 
 
 class Rooms:
-    """Two lists that a case's values go to, with guards on both sides, which must stay."""
+    """Lists that a case's values go to, numbers first and then bytes, with guards on both sides, which must stay."""
 
-    def __init__(self, dice, case, mark):
-        numbers = array("Q", [5] * GUARD + [rows.NUMBER_BEFORE] * case.room_numbers + [5] * GUARD)
-        marks = bytearray([5] * GUARD + [mark] * case.room_marks + [5] * GUARD)
+    def __init__(self, dice, byte, room_numbers, *rooms):
+        self.whole = [array("Q", [5] * GUARD + [rows.NUMBER_BEFORE] * room_numbers + [5] * GUARD)]
+        self.whole += [bytearray([5] * GUARD + [byte] * room + [5] * GUARD) for room in rooms]
         if numpy and dice.chance(50):
-            numbers, marks = numpy.array(numbers, "u8"), numpy.array(marks, "u1")
-        self.whole = numbers, marks
-        self.lent = memoryview(numbers)[GUARD:-GUARD], memoryview(marks)[GUARD:-GUARD]
+            self.whole = [numpy.array(each, "u1" if place else "u8") for place, each in enumerate(self.whole)]
+        self.lent = [memoryview(each)[GUARD:-GUARD] for each in self.whole]
 
     def line(self, head):
         for each in self.whole:
             assert list(each[:GUARD]) == list(each[-GUARD:]) == [5] * GUARD, "a guard was written"
-        return rows.line([*head, *self.lent[0], *self.lent[1]])
+        return rows.line([*head, *(number for each in self.lent for number in each)])
 
 
 def read_line(dice, case):
-    rooms = Rooms(dice, case, rows.MARK_BEFORE)
+    rooms = Rooms(dice, rows.MARK_BEFORE, case.room_numbers, case.room_marks)
     try:
         block = razovinto.read(dice.pick(BYTE_FORMS)(case.block), *rooms.lent)
         return rooms.line([0, 0, block.number, block.count])
@@ -361,7 +419,7 @@ def level_scan_lines(dice, case):
 
 
 def turn_line(dice, case):
-    rooms = Rooms(dice, case, rows.BYTE_BEFORE)
+    rooms = Rooms(dice, rows.BYTE_BEFORE, case.room_numbers, case.room_marks)
     level = dice.pick(FLOAT_FORMS)(case.level), dice.pick(BYTE_FORMS)(case.ground)
     try:
         field = razovinto.level_to_field(*level, *rooms.lent)
@@ -391,6 +449,47 @@ def turn_lines(dice, case):
         yield rows.line([code, place, *numbers]), own_turn_line(dice.pick(FLOAT_FORMS)(case.level), *given)
 
 
+def row_line(dice, case, function, *operations):
+    """The line of a row into lent lists."""
+    rooms = Rooms(dice, rows.BYTE_BEFORE, *case.rooms)
+    try:
+        row = function(*operations, *rooms.lent)
+    except Refused as refused:
+        return rooms.line([refused.number, refused.place])
+    for given, lent in zip(row, rooms.lent):
+        assert [*given] == [*lent[: len(case.kinds)]], "the lent lists stand in the answer up to the row's length"
+    return rooms.line([0, 0])
+
+
+def own_row_line(dice, case, function, *operations):
+    """The line of a row into lists of the module's own, each as long as the row."""
+    plain = dice.chance(50)
+    try:
+        row = function(*operations, plain=plain)
+    except Refused as refused:
+        return rows.line([refused.number, refused.place])
+    if numpy and not plain:
+        assert [each.dtype for each in row] == [numpy.uint64, numpy.uint8, numpy.uint8], "numpy's lists"
+    assert {len(each) for each in row} == {len(case.kinds)}, "own lists are of the row's length"
+    return rows.line([0, 0, *(number for each in row for number in each)])
+
+
+def row_lines(dice, case):
+    def lists():
+        return dice.pick(KIND_FORMS)(case.kinds), *(dice.pick(NUMBER_FORMS)(each) for each in (case.lefts, case.rights))
+
+    n = len(case.kinds)
+    own = case._replace(room_numbers=n, room_marks=n, room_codes=n)
+    code = model.row(case.kinds, case.lefts, case.rights, own.rooms)[0]
+    wanted, own_wanted = case.line(), rows.line([code, 0]) if code else own.line()
+    yield wanted, row_line(dice, case, razovinto.row, *lists())
+    yield own_wanted, own_row_line(dice, case, razovinto.row, *lists())
+    if n == len(case.lefts) == len(case.rights):
+        for records in (dice.pick(RECORD_FORMS)(case.kinds, case.lefts, case.rights) for _ in range(2)):
+            yield wanted, row_line(dice, case, razovinto.row_of_records, records)
+            yield own_wanted, own_row_line(dice, case, razovinto.row_of_records, records)
+
+
 LINES = {
     rows.Run: run_lines,
     rows.Scan: scan_lines,
@@ -402,6 +501,7 @@ LINES = {
     rows.Write: write_lines,
     rows.LevelScan: level_scan_lines,
     rows.Turn: turn_lines,
+    rows.Row: row_lines,
 }
 
 

@@ -26,7 +26,7 @@ sys.path[:0] = [str(ROOT / "python"), str(ROOT / "tests" / "second")]
 import model
 import razovinto
 import sample
-from razovinto import OVERFLOWED, Block, Extent, Field, Found, Range, Refusal, Refused, Run, State
+from razovinto import OVERFLOWED, Block, Extent, Field, Found, Operation, Range, Refusal, Refused, Row, Run, State
 
 try:
     import numpy
@@ -874,6 +874,311 @@ class Levels(Case):
         self.assertFalse(memory.any())
 
 
+# Operations of a row, and what each comes to: number, mark and code.
+OPERATIONS = (
+    ((1, MOST - 1, 1), (MOST, 0, 0)),
+    ((1, MOST, 2), (0, 1, 0)),
+    ((2, 2**32, 2**32 - 1), (2**64 - 2**32, 0, 0)),
+    ((2, MOST, 2), (0, 1, 0)),
+    ((3, MOST, 10), (MOST // 10, 0, 0)),
+    ((3, 7, 0), (0, 0, 1)),
+    ((4, MOST, 10), (5, 0, 0)),
+    ((4, 0, 0), (0, 0, 1)),
+    ((5, 0, 0), (1, 0, 0)),
+    ((5, 3, 41), (0, 1, 0)),
+    ((6, 2, MOST), (63, 0, 0)),
+    ((6, 1, 5), (0, 0, 2)),
+    ((0, 1, 2), (0, 0, 8)),
+    ((7, 1, 2), (0, 0, 8)),
+    ((255, MOST, 0), (0, 0, 8)),
+)
+RECORDS = [operation for operation, _ in OPERATIONS]
+KINDS, LEFTS, RIGHTS = (list(each) for each in zip(*RECORDS))
+NUMBERS, MARKS, CODES = (list(each) for each in zip(*(element for _, element in OPERATIONS)))
+TWO = ("sum", "quotient"), (270, 7), (11, 0)
+
+
+class Rows(Case):
+    def same(self, row, numbers, marks, codes):
+        self.assertIs(type(row), Row)
+        self.assertEqual([list(each) for each in row], [list(numbers), list(marks), list(codes)])
+
+    def both(self, kinds, lefts, rights, *more):
+        """The row of plain lists and that of records."""
+        yield razovinto.row(kinds, lefts, rights, *more)
+        yield razovinto.row_of_records(list(zip(kinds, lefts, rights)), *more)
+
+    def test_elements(self):
+        for row in self.both(KINDS, LEFTS, RIGHTS):
+            self.same(row, NUMBERS, MARKS, CODES)
+        for (kind, left, right), (number, mark, code) in OPERATIONS:
+            for row in self.both([kind], [left], [right]):
+                self.same(row, [number], [mark], [code])
+
+    def test_equal_to_single_operations(self):
+        edges = 0, 1, 2, 3, 10, 2**32 - 1, 2**32, 2**63, MOST - 1, MOST
+        pairs = [(left, right) for left in edges for right in edges]
+        for kind, word in enumerate(razovinto.KINDS[1:], 1):
+            row = razovinto.row([kind] * len(pairs), *zip(*pairs))
+            for (left, right), number, mark, code in zip(pairs, *row):
+                try:
+                    value = getattr(razovinto, word)(left, right)
+                except Refused as refused:
+                    self.assertEqual((number, mark, code), (0, 0, refused.number))
+                else:
+                    self.assertEqual((OVERFLOWED if mark else int(number), code), (value, 0))
+
+    def test_kinds(self):
+        for kinds in (
+            [1, 3],
+            ("sum", "quotient"),
+            ["sum", 3],
+            b"\1\3",
+            bytearray(b"\1\3"),
+            array("B", [1, 3]),
+            array("q", [1, 3]),
+            memoryview(b"\0\1\3")[1:],
+            (ctypes.c_uint8 * 2)(1, 3),
+            iter(["sum", "quotient"]),
+        ):
+            self.same(razovinto.row(kinds, [270, 7], [11, 0]), [281, 0], [0, 0], [0, 1])
+        row = razovinto.row(range(256), [7] * 256, [2] * 256)
+        self.same(row, [0, 9, 14, 3, 1, 49] + [0] * 250, [0] * 256, [8] + [0] * 6 + [8] * 249)
+
+    def test_records(self):
+        class Other(ctypes.Structure):
+            _fields_ = [("right", ctypes.c_uint32), ("kind", ctypes.c_int), ("left", ctypes.c_uint64)]
+
+        for records in (
+            [("sum", 270, 11), (3, 7, 0)],
+            ([1, 270, 11], ["quotient", 7, 0]),
+            (record for record in ((1, 270, 11), (3, 7, 0))),
+            (Operation * 2)((1, 270, 11), (3, 7, 0)),
+            [Operation(1, 270, 11), Operation(kind=3, left=7)],
+            (Other * 2)((11, 1, 270), (0, 3, 7)),
+            [Operation(1, 270, 11), (3, 7, 0)],
+        ):
+            self.same(razovinto.row_of_records(records), [281, 0], [0, 0], [0, 1])
+        self.same(razovinto.row_of_records(records=[(255, MOST, MOST)]), [0], [0], [8])
+        # What stands between kind and left counts for nothing, and stays.
+        raw = b"\1" + b"\xff" * 7 + array("Q", [270, 11]).tobytes()
+        records = (Operation * 1).from_buffer_copy(raw)
+        self.same(razovinto.row_of_records(records), [281], [0], [0])
+        self.assertEqual(bytes(records), raw)
+
+    def test_layout(self):
+        self.assertEqual(ctypes.sizeof(Operation), 24)
+        self.assertEqual([getattr(Operation, name).offset for name in ("kind", "left", "right")], [0, 8, 16])
+        self.assertEqual(razovinto.ROW_MOST, 4096)
+
+    def test_refusals(self):
+        numbers, marks, codes = array("Q", [11] * 9), bytearray([12] * 9), bytearray([13] * 9)
+        for number, kinds, lefts, rights, rooms in (
+            (6, 1, 2, 2, (9, 9, 9)),
+            (6, 2, 1, 2, (9, 9, 9)),
+            (6, 2, 2, 1, (0, 0, 0)),
+            (6, 0, 0, 1, (0, 0, 0)),
+            (6, 4097, 4096, 4096, (9, 9, 9)),
+            (7, 0, 0, 0, (9, 9, 9)),
+            (7, 4097, 4097, 4097, (0, 0, 0)),
+            (19, 2, 2, 2, (1, 9, 9)),
+            (19, 2, 2, 2, (9, 1, 9)),
+            (19, 2, 2, 2, (9, 9, 1)),
+            (19, 2, 2, 2, (0, 0, 0)),
+        ):
+            lent = [memoryview(each)[:room] for each, room in zip((numbers, marks, codes), rooms)]
+            operations = [7] * kinds, [1] * lefts, [2] * rights
+            self.refused(number, 0, razovinto.row, *operations, *lent)
+            if number != 19:
+                self.refused(number, 0, razovinto.row, *operations)
+            if number != 6:
+                self.refused(number, 0, razovinto.row_of_records, [(7, 1, 2)] * kinds, *lent)
+            self.assertEqual((list(numbers), list(marks), list(codes)), ([11] * 9, [12] * 9, [13] * 9))
+
+    def test_lengths(self):
+        for n in (1, 2, 55, 4095, 4096):
+            lefts, rights = range(n), [3] * n
+            wanted = [each * 3 for each in range(n - 1)] + [0], bytes(n), bytes(n - 1) + b"\1"
+            for row in self.both([2] * (n - 1) + ["remainder"], lefts, rights[:-1] + [0]):
+                self.same(row, *wanted)
+            self.assertEqual({len(each) for each in row}, {n})
+        for row in (razovinto.row, lambda *three: razovinto.row_of_records(list(zip(*three)))):
+            self.refused(7, 0, row, [1] * 4097, [1] * 4097, [1] * 4097)
+            self.refused(7, 0, row, [], [], [])
+
+    def test_own_lists(self):
+        for row in (razovinto.row(*TWO, plain=True), razovinto.row_of_records(list(zip(*TWO)), plain=True)):
+            self.assertEqual(row, Row(array("Q", [281, 0]), b"\0\0", b"\0\1"))
+        for row in self.both(*TWO):
+            if numpy:
+                self.assertEqual([each.dtype for each in row], [numpy.uint64, numpy.uint8, numpy.uint8])
+                row.numbers[0] = 5  # their memory is their own
+            else:
+                self.assertEqual(row, Row(array("Q", [281, 0]), b"\0\0", b"\0\1"))
+
+    def test_lent_lists(self):
+        for plain in (False, True):
+            numbers, marks, codes = array("Q", [11] * 2), bytearray([12] * 2), bytearray([13] * 2)
+            for row in self.both(*TWO, numbers, marks, codes, plain):
+                self.assertIs(row.numbers, numbers)
+                self.assertIs(row.marks, marks)
+                self.assertIs(row.codes, codes)
+                self.same(row, [281, 0], [0, 0], [0, 1])
+        for lists in (
+            (array("Q", [11] * 4), bytearray([12] * 3), bytearray([13] * 5)),
+            tuple(map(memoryview, (array("Q", [11] * 4), bytearray([12] * 3), bytearray([13] * 5)))),
+            ((ctypes.c_uint64 * 4)(*[11] * 4), (ctypes.c_uint8 * 3)(*[12] * 3), (ctypes.c_uint8 * 5)(*[13] * 5)),
+        ):
+            for row in self.both(*TWO, *lists):
+                self.assertEqual(list(map(list, lists)), [[281, 0, 11, 11], [0, 0, 12], [0, 1, 13, 13, 13]])
+                # The answer's lists are as long as the row, whatever the lent ones are.
+                self.same(row, [281, 0], [0, 0], [0, 1])
+        codes = bytearray([13] * 3)
+        row = razovinto.row(*TWO, codes=codes, plain=True)
+        self.assertEqual((row.numbers, row.marks, codes), (array("Q", [281, 0]), b"\0\0", b"\0\1\15"))
+        codes[0] = 99  # the answer's codes stand in the lent list
+        self.assertEqual(list(row.codes), [99, 1])
+
+    def test_neighbours_stay(self):
+        for function, operations in ((razovinto.row, TWO), (razovinto.row_of_records, [list(zip(*TWO))])):
+            numbers, marks, codes = array("Q", [11] * 6), bytearray([12] * 6), bytearray([13] * 6)
+            function(*operations, *(memoryview(each)[2:4] for each in (numbers, marks, codes)))
+            self.assertEqual(list(numbers), [11, 11, 281, 0, 11, 11])
+            self.assertEqual(list(marks), [12, 12, 0, 0, 12, 12])
+            self.assertEqual(list(codes), [13, 13, 0, 1, 13, 13])
+
+    def test_wrong_lists(self):
+        self.wrong(ValueError, "kinds[1] is 'plus', and must be", razovinto.row, [1, "plus"], [1, 2], [1, 2])
+        self.wrong(ValueError, "kinds[0] is 'literal'", razovinto.row, ["literal"], [1], [1])
+        self.wrong(TypeError, "kinds is one text", razovinto.row, "sum", [1], [1])
+        self.wrong(OverflowError, "kinds[1] is 256", razovinto.row, [1, 256], [1, 2], [1, 2])
+        self.wrong(TypeError, "kinds[0] is 1.0", razovinto.row, [1.0], [1], [1])
+        self.wrong(TypeError, "kinds is of the type int", razovinto.row, 1, [1], [1])
+        self.wrong(OverflowError, "lefts[1] is -1", razovinto.row, [1, 1], [1, -1], [1, 2])
+        self.wrong(OverflowError, "rights[0] is 18446744073709551616", razovinto.row, [1], [1], [MOST + 1])
+        self.wrong(TypeError, "lefts[0] is overflowed", razovinto.row, [1], [OVERFLOWED], [1])
+        self.wrong(TypeError, "rights is of the type int", razovinto.row, [1], [1], 1)
+
+    def test_wrong_records(self):
+        for record in (1, (1, 2), (1, 2, 3, 4), "sum", b"\1\2\3", None, {1, 2, 3}, OVERFLOWED):
+            self.wrong(TypeError, "records[1] is", razovinto.row_of_records, [(1, 2, 3), record])
+        self.wrong(ValueError, "kind of records[1] is 'plus'", razovinto.row_of_records, [(1, 2, 3), ("plus", 2, 3)])
+        self.wrong(OverflowError, "the kind of records[0] is -1", razovinto.row_of_records, [(-1, 2, 3)])
+        self.wrong(OverflowError, "the left of records[1] is -2", razovinto.row_of_records, [(1, 2, 3), (1, -2, 3)])
+        self.wrong(OverflowError, "the right of records[0] is 18446744", razovinto.row_of_records, [(1, 2, MOST + 1)])
+        self.wrong(TypeError, "the right of records[0] is 3.0", razovinto.row_of_records, [(1, 2, 3.0)])
+        self.wrong(TypeError, "the left of records[0] is overflowed", razovinto.row_of_records, [(1, OVERFLOWED, 3)])
+        self.wrong(TypeError, "records is of the type int", razovinto.row_of_records, 5)
+        for raw in (bytes(24), bytearray(48)):
+            self.wrong(TypeError, "records is bytes", razovinto.row_of_records, raw)
+        # Rows and columns of plain numbers are no records.
+        self.wrong(TypeError, "records[0] is 1", razovinto.row_of_records, array("Q", [1, 2, 3]))
+
+    def test_lists_that_cannot_be_written(self):
+        wrong = bytes(2), [0] * 2, memoryview(bytearray(4))[::2], array("b", [0] * 2), memoryview(bytes(2)), 2
+        for function, operations in ((razovinto.row, TWO), (razovinto.row_of_records, [list(zip(*TWO))])):
+            for numbers in (bytearray(16), array("q", [0] * 2), *wrong):
+                self.wrong(TypeError, "numbers must be a list that", function, *operations, numbers)
+            for each in (array("Q", [0] * 2), *wrong):
+                self.wrong(TypeError, "marks must be a list that", function, *operations, None, each)
+                self.wrong(TypeError, "codes must be a list that", function, *operations, None, None, each)
+            askew = memoryview(bytearray(25))[1:17].cast("Q")
+            if ctypes.addressof(ctypes.c_char.from_buffer(askew)) % 8:
+                self.wrong(ValueError, "numbers is not aligned", function, *operations, askew)
+
+    def test_shared_memory(self):
+        memory = bytearray(80)
+        whole, before = memoryview(memory), bytes(80)
+        kinds, lefts, rights = whole[:2], whole[8:24].cast("Q"), whole[24:40].cast("Q")
+        for words, given in (
+            ("kinds and marks share memory", (None, whole[1:3])),
+            ("kinds and codes share memory", (None, None, whole[:2])),
+            ("lefts and numbers share memory", (whole[16:32].cast("Q"),)),
+            ("rights and marks share memory", (None, whole[39:41])),
+            ("numbers and marks share memory", (whole[40:56].cast("Q"), whole[55:57])),
+            ("marks and codes share memory", (None, whole[60:62], whole[61:63])),
+            ("share memory", (whole.cast("Q"),)),
+        ):
+            self.wrong(ValueError, words, razovinto.row, kinds, lefts, rights, *given)
+            self.assertEqual(memory, before)
+        # Lists that are only read may be the same memory, and lists may lie one after the other.
+        row = razovinto.row(kinds, lefts, lefts, whole[40:56].cast("Q"), whole[56:58], whole[58:60])
+        self.same(row, [0, 0], [0, 0], [8, 8])
+        records = (Operation * 2).from_buffer(whole[:48])
+        for given in ((whole[40:56].cast("Q"),), (None, whole[47:49]), (None, None, whole[:3])):
+            self.wrong(ValueError, "records and", razovinto.row_of_records, records, *given)
+        row = razovinto.row_of_records(records, whole[48:64].cast("Q"), whole[64:66], whole[66:68])
+        self.same(row, [0, 0], [0, 0], [8, 8])
+
+    @with_numpy
+    def test_numpy(self):
+        kinds, lefts, rights = numpy.array(KINDS, "u1"), numpy.array(LEFTS, "u8"), numpy.array(RIGHTS, "u8")
+        self.same(razovinto.row(kinds, lefts, rights), NUMBERS, MARKS, CODES)
+        self.same(razovinto.row(kinds.astype("i4"), lefts.astype(object), rights.astype(">u8")), NUMBERS, MARKS, CODES)
+        self.same(razovinto.row(kinds.reshape(3, 5), lefts, rights.reshape(5, 3)), NUMBERS, MARKS, CODES)
+        self.same(razovinto.row(kinds[::-1], lefts[::-1], rights[::-1]), NUMBERS[::-1], MARKS[::-1], CODES[::-1])
+        self.same(razovinto.row(numpy.array(TWO[0], object), *TWO[1:]), [281, 0], [0, 0], [0, 1])
+        self.same(razovinto.row(numpy.ones(2, bool), *TWO[1:]), [281, 7], [0, 0], [0, 0])
+        self.wrong(TypeError, "lefts is an array of float64", razovinto.row, kinds, lefts.astype("f8"), rights)
+        self.wrong(TypeError, "kinds is an array of <U3", razovinto.row, numpy.array(["sum"]), [1], [1])
+        self.wrong(OverflowError, "kinds[1] is -1", razovinto.row, numpy.array([1, -1]), [1, 2], [1, 2])
+        for place in range(3):
+            given = [numpy.ma.array(each) if i == place else each for i, each in enumerate((kinds, lefts, rights))]
+            self.wrong(TypeError, "is a masked array", razovinto.row, *given)
+
+    @with_numpy
+    def test_numpy_records(self):
+        own = numpy.array(RECORDS, Operation)
+        for fields, align in (
+            ([("kind", "u1"), ("left", "u8"), ("right", "u8")], False),
+            ([("right", ">u8"), ("left", "u8"), ("more", "f4"), ("kind", "i8")], False),
+            ([("kind", "u1"), ("flags", "u1", 7), ("left", "u8"), ("right", "u8")], True),
+            ([("kind", "O"), ("left", "O"), ("right", "O")], False),
+        ):
+            records = numpy.full(len(own), 1, numpy.dtype(fields, align=align))
+            for name in ("kind", "left", "right"):
+                records[name] = own[name]
+            for given in (records, numpy.rec.array(records), list(records), records.reshape(5, 3)):
+                self.same(razovinto.row_of_records(given), NUMBERS, MARKS, CODES)
+        in_order = numpy.asfortranarray(own.reshape(3, 5))
+        for given in (own, own[::-1][::-1], own.reshape(3, 5), in_order, own[["kind", "left", "right"]]):
+            self.same(razovinto.row_of_records(given), NUMBERS, MARKS, CODES)
+        self.same(razovinto.row_of_records(own[::-1]), NUMBERS[::-1], MARKS[::-1], CODES[::-1])
+        self.same(razovinto.row_of_records(own[3:4]), [0], [1], [0])
+        self.refused(7, 0, razovinto.row_of_records, own[:0])
+        own.flags.writeable = False
+        self.same(razovinto.row_of_records(own), NUMBERS, MARKS, CODES)
+
+    @with_numpy
+    def test_wrong_numpy_records(self):
+        own = numpy.zeros(3, Operation)
+        self.wrong(TypeError, "records is a masked array", razovinto.row_of_records, numpy.ma.array(own))
+        self.wrong(TypeError, "records have no field 'kind'", razovinto.row_of_records, own[["left", "right"]])
+        self.wrong(TypeError, "records[0] is 0", razovinto.row_of_records, own["left"])
+        self.wrong(TypeError, "records is of the type ndarray", razovinto.row_of_records, numpy.array(5))
+        real = own.astype([("kind", "u1"), ("left", "f8"), ("right", "u8")])
+        self.wrong(TypeError, "the left of records is an array of float64", razovinto.row_of_records, real)
+        signed = numpy.zeros(3, [("kind", "i1"), ("left", "i8"), ("right", "i8")])
+        signed["right"][2] = -5
+        self.wrong(OverflowError, "the right of records[2] is -5", razovinto.row_of_records, signed)
+        several = numpy.zeros(3, [("kind", "u1", 2), ("left", "u8"), ("right", "u8")])
+        self.wrong(TypeError, "records must have one kind", razovinto.row_of_records, several)
+
+    @with_numpy
+    def test_lent_numpy(self):
+        numbers, marks, codes = numpy.full(6, 11, "u8"), numpy.ones(6, bool), numpy.full(6, 13, "u1")
+        for row in self.both(*TWO, numbers[2:], marks[2:4], codes[2:]):
+            self.same(row, [281, 0], [0, 0], [0, 1])
+            for given, lent in zip(row, (numbers, marks, codes)):
+                self.assertTrue(numpy.shares_memory(given, lent))
+        self.assertEqual(numbers.tolist(), [11, 11, 281, 0, 11, 11])
+        self.assertEqual(marks.tolist(), [True, True, False, False, True, True])
+        self.assertEqual(codes.tolist(), [13, 13, 0, 1, 13, 13])
+        records = numpy.zeros(2, Operation)
+        self.wrong(ValueError, "records and numbers share", razovinto.row_of_records, records, records.view("u8")[3:5])
+        self.assertFalse(records.view("u8").any())
+
+
 class Lending(Case):
     def address(self, given, items=None):
         with razovinto._lend("given", given, items or razovinto._NUMBERS) as lent:
@@ -946,6 +1251,50 @@ class Lending(Case):
         for other in (readings.T, readings[:, ::2], readings.astype(">f4"), readings.astype("f8")):
             self.assertNotEqual(self.address(other, razovinto._FLOATS)[0], other.ctypes.data)
 
+    def address_of_records(self, given):
+        with razovinto._lend_records(given) as lent:
+            return lent.address, lent.count
+
+    def test_no_copy_of_records(self):
+        records = (Operation * 3)((1, 2, 3), (4, 5, 6))
+        self.assertEqual(self.address_of_records(records), (ctypes.addressof(records), 3))
+        memory = bytearray(24 * 2 + 8)
+        there = ctypes.addressof(ctypes.c_char.from_buffer(memory))
+        for offset in range(8):
+            askew = (Operation * 2).from_buffer(memory, offset)
+            askew[0], askew[1] = (2, 3, 5), (3, 7, 0)
+            address, count = self.address_of_records(askew)
+            self.assertEqual((address % 8, count), (0, 2))
+            self.assertEqual(address == there + offset, (there + offset) % 8 == 0)
+            self.assertEqual(razovinto.row_of_records(askew, plain=True), Row(array("Q", [15, 0]), bytes(2), b"\0\1"))
+
+    @with_numpy
+    def test_no_copy_of_numpy_records(self):
+        """What lies as Operation does is lent where it is, with other fields between its own too; nothing else is."""
+        records = numpy.zeros(6, Operation)
+        self.assertEqual(self.address_of_records(records), (records.ctypes.data, 6))
+        self.assertEqual(self.address_of_records(records[1:4]), (records.ctypes.data + 24, 3))
+        self.assertEqual(self.address_of_records(records.reshape(2, 3)), (records.ctypes.data, 6))
+        self.assertEqual(self.address_of_records(records.view(numpy.recarray)), (records.ctypes.data, 6))
+        records.flags.writeable = False
+        self.assertEqual(self.address_of_records(records[5:]), (records.ctypes.data + 120, 1))
+        fields = [("kind", "u1"), ("flags", "u1", 3), ("more", "f4"), ("left", "u8"), ("right", "u8")]
+        flagged = numpy.zeros(4, numpy.dtype(fields, align=True))
+        self.assertEqual(self.address_of_records(flagged), (flagged.ctypes.data, 4))
+        raw = numpy.frombuffer(bytes(24 * 4), Operation)
+        self.assertEqual(self.address_of_records(raw), (raw.ctypes.data, 4))
+        for fields in (
+            [("kind", "u1"), ("left", "u8"), ("right", "u8")],
+            [("kind", "i1"), ("more", "V7"), ("left", "u8"), ("right", "u8")],
+            [("kind", "u1"), ("more", "V7"), ("left", ">u8"), ("right", "u8")],
+            [("kind", "u1"), ("more", "V7"), ("right", "u8"), ("left", "u8")],
+            [("kind", "u1"), ("more", "V7"), ("left", "u8"), ("right", "u8"), ("last", "u8")],
+        ):
+            other = numpy.zeros(4, fields)
+            self.assertNotEqual(self.address_of_records(other)[0], other.ctypes.data)
+        for other in (records[::2], records[::-1], records.reshape(2, 3).T):
+            self.assertNotEqual(self.address_of_records(other)[0], other.ctypes.data)
+
     def test_floats_of_a_file(self):
         with tempfile.TemporaryFile() as file:
             file.write(array("f", [271.5, -1.0, 300.0]).tobytes())
@@ -994,6 +1343,14 @@ class Lending(Case):
             self.assertRaises(TypeError, razovinto.level_to_field, level, None, numbers, 5)
             self.assertRaises(TypeError, razovinto.level_to_field, level, None, level)
             self.assertRaises(ValueError, razovinto.level_to_field, level, marks, None, marks)
+            razovinto.row(marks[:2], numbers[:2], numbers[:2], numbers, marks, bytearray(2))
+            razovinto.row_of_records([(1, 2, 3)], numbers, marks)
+            self.assertRaises(Refused, razovinto.row, marks, numbers, numbers)
+            self.assertRaises(Refused, razovinto.row_of_records, [(1, 2, 3)] * 9, numbers, marks)
+            self.assertRaises(TypeError, razovinto.row, marks, numbers, 5)
+            self.assertRaises(TypeError, razovinto.row, memory[:1], [1], [1], numbers, marks, text)
+            self.assertRaises(TypeError, razovinto.row_of_records, [(1, 2, 3)], numbers, marks, 5)
+            self.assertRaises(ValueError, razovinto.row, memory[:1], [1], [1], numbers, marks, marks)
         self.assertEqual((sys.getrefcount(text), sys.getrefcount(memory)), before)
         memory.append(0)  # would be a BufferError if it were still lent
         marks.append(0)

@@ -1,11 +1,12 @@
 """Makers of cases, random ones and ones at the boundaries. Each takes a Dice, so that a seed gives the same cases again."""
 import random
 import struct
+from itertools import product
 from math import isqrt
 
 import model
-from model import LITERAL, LOGARITHM, OVERFLOWED, POWER, PRODUCT, QUOTIENT, SUM, WIDTHS, limit
-from rows import FIELD, LIST, RUN, Fit, LevelScan, Operation, Plain, Read, Run, Scan, Search, Signed, Turn, Write
+from model import LITERAL, LOGARITHM, OVERFLOWED, POWER, PRODUCT, QUOTIENT, REMAINDER, ROW, SUM, WIDTHS, limit
+from rows import FIELD, LIST, RUN, Fit, LevelScan, Operation, Plain, Read, Row, Run, Scan, Search, Signed, Turn, Write
 
 MOST = limit(64)
 ODD_WIDTHS = (0, 7, 8, 9, 16, 32, 63, 64, 255)
@@ -1095,6 +1096,153 @@ def some_not_whole(dice):
     return dice.pick(NOT_WHOLE) if dice.chance(40) or model.whole_by_bits(bits) else bits
 
 
+# Rows of operations: a kind, a left and a right each
+
+FITTING = (
+    (SUM, 20, 3),
+    (SUM, MOST, 0),
+    (PRODUCT, 2**32 - 1, 2**32 + 1),
+    (QUOTIENT, MOST, 10),
+    (REMAINDER, MOST, 10),
+    (POWER, 0, 0),
+    (POWER, 2, 63),
+    (LOGARITHM, 2, MOST),
+    (LOGARITHM, 10, 0),
+)
+# None of these wraps to 0.
+TOO_LARGE = ((SUM, MOST, 2), (PRODUCT, MOST, 2), (POWER, 3, 41))
+REFUSED = ((QUOTIENT, 7, 0), (REMAINDER, 0, 0), (LOGARITHM, 1, 5), (LITERAL, 1, 2), (7, MOST, 2), (255, 0, 0))
+TELLING = (*FITTING, *TOO_LARGE, *REFUSED)
+KINDS_OF_A_ROW = (*range(SUM, LOGARITHM + 1), LITERAL, 7, 255)
+
+
+def row_of(operations, more=(0, 0, 0)):
+    """A row into lists that have so many elements more than it, or fewer."""
+    kinds, lefts, rights = zip(*operations) if operations else ((), (), ())
+    return Row(bytes(kinds), lefts, rights, *(max(0, len(operations) + each) for each in more))
+
+
+def mixed_operations(n):
+    """So many telling operations; 5 and how many there are have no common factor."""
+    return [TELLING[5 * i % len(TELLING)] for i in range(n)]
+
+
+def pairs_of_edges(kind, numbers):
+    values = sorted(set(numbers(64)))
+    return [(kind, left, right) for left in values for right in values]
+
+
+def single_rows(numbers=edges):
+    """Each kind on each pair of edges alone, which is a single operation's case."""
+    for operation in (*TELLING, *(each for kind in KINDS_OF_A_ROW for each in pairs_of_edges(kind, numbers))):
+        yield row_of([operation])
+
+
+def rows_of_one_kind(numbers=edges):
+    for kind in KINDS_OF_A_ROW:
+        yield row_of(pairs_of_edges(kind, numbers))
+
+
+def mixed_rows():
+    """All kinds on all pairs of edges in one row, kind by kind and pair by pair; and every kind that a byte can be."""
+    by_kind = [pairs_of_edges(kind, edges) for kind in KINDS_OF_A_ROW]
+    yield row_of([operation for operations in by_kind for operation in operations])
+    yield row_of([operation for operations in zip(*by_kind) for operation in operations], (1, 2, 3))
+    yield row_of(mixed_operations(len(TELLING)))
+    yield every_kind()
+
+
+def every_kind():
+    return row_of([(kind, 7, 2) for kind in range(256)])
+
+
+def refused_places():
+    """A refused, an overflowed and a fitting operation in every order, each where it must leave the others alone."""
+    for refused, large in zip(REFUSED, TOO_LARGE * 2):
+        for operations in product((FITTING[0], large, refused), repeat=3):
+            yield row_of(operations, (0, 1, 2))
+    yield row_of(REFUSED * 4)
+    yield row_of(TOO_LARGE * 4)
+
+
+def row_rooms(lengths=(1, 2, 55)):
+    """Each of the three lists shorter than the row, just as long, and longer; what is past the row's length stays."""
+    for n in lengths:
+        for more in product((-n, -1, 0, 1, 3), repeat=3):
+            yield row_of(mixed_operations(n), more)
+
+
+def row_with_counts(counts, rooms):
+    """Lists of so many kinds, lefts and rights."""
+    kinds, lefts, rights = (tuple(each) for each in zip(*mixed_operations(max(1, *counts))))
+    return Row(bytes(kinds[: counts[0]]), lefts[: counts[1]], rights[: counts[2]], *rooms)
+
+
+def row_lists():
+    """Lists of each telling length, equal or not, alone and with too little room, which comes after."""
+    for counts in product((0, 1, 2), repeat=3):
+        for rooms in ((0, 0, 0), (2, 2, 2), (1, 2, 2), (2, 1, 2), (2, 2, 1)):
+            yield row_with_counts(counts, rooms)
+
+
+def long_row_lists():
+    """The same around the most operations of a row, and around the most elements of a case's list."""
+    for counts in product((ROW, ROW + 1), repeat=3):
+        for rooms in ((0, 0, 0), (3, FIELD, FIELD)):
+            yield row_with_counts(counts, rooms)
+    for counts in ((FIELD, FIELD, FIELD), (FIELD - 1, FIELD, FIELD), (FIELD, FIELD, FIELD - 1), (0, 0, FIELD)):
+        yield row_with_counts(counts, (0, 1, 2))
+
+
+def longest_rows():
+    """Rows at the most operations, each of the three lists a place too short, just as long, and longer."""
+    for n in (ROW - 1, ROW, ROW + 1):
+        for more in ((0, 0, 0), (-1, 0, 0), (0, -1, 0), (0, 0, -1), (1, 2, 3), (-n, -n, -n)):
+            yield row_of(mixed_operations(n), more)
+    for kind in KINDS_OF_A_ROW:
+        operations = pairs_of_edges(kind, edges)
+        yield row_of((operations * (ROW // len(operations) + 1))[:ROW])
+    # Only the last operation is another one.
+    for last in TELLING:
+        yield row_of([FITTING[0]] * (ROW - 1) + [last])
+    yield Row(bytes([SUM]), (1,), (2,), FIELD, FIELD, FIELD)
+
+
+def some_row_operation(dice, kind):
+    if kind not in range(SUM, LOGARITHM + 1):
+        return kind, some_number(dice, 64), some_number(dice, 64)
+    case = some_operation_of(dice, 64, kind, some_number)
+    return kind, case.left, case.right
+
+
+def some_row_kind(dice):
+    return dice.pick((0, 7, 8, 127, 128, 255, dice.bits(8))) if dice.chance(8) else dice.between(SUM, LOGARITHM)
+
+
+def some_row_length(dice):
+    """Mostly short, sometimes 0, or around the most operations of a row."""
+    way = dice.below(40)
+    if way == 0:
+        return dice.between(ROW - 2, ROW + 2)
+    return dice.between(1, dice.pick((1, 4, 12, 60, 60, 300))) if way > 1 else 0
+
+
+def some_row(dice, length=some_row_length):
+    """Mostly a row that is worked out, of all kinds or of one; some have lists that differ or are too short."""
+    n = length(dice)
+    one = some_row_kind(dice) if dice.chance(25) else None
+    kinds = [some_row_kind(dice) if one is None else one for _ in range(n)]
+    more = [dice.pick((0, 0, 0, 1, 5)) for _ in range(3)]
+    if dice.chance(10):
+        more[dice.below(3)] = -dice.between(1, max(1, n))
+    case = row_of([some_row_operation(dice, kind) for kind in kinds], more)
+    if dice.chance(92):
+        return case
+    longer = {"kinds": case.kinds + b"\1", "lefts": case.lefts + (1,), "rights": case.rights + (1,)}
+    name = dice.pick(("kinds", "lefts", "rights"))
+    return case._replace(**{name: longer[name] if dice.chance(50) else getattr(case, name)[:-1]})
+
+
 SOME = (
     some_run,
     some_scan,
@@ -1107,6 +1255,7 @@ SOME = (
     some_write,
     some_level_scan,
     some_turn,
+    some_row,
 )
 
 
@@ -1123,7 +1272,7 @@ def malformed():
 
 
 def unknown_rows():
-    return ((f"a case whose first byte is {byte}", bytes([byte])) for byte in (0, 12, 13, 127, 128, 255))
+    return ((f"a case whose first byte is {byte}", bytes([byte])) for byte in (0, 13, 14, 127, 128, 255))
 
 
 def cut_short():
@@ -1140,6 +1289,7 @@ def cut_short():
         Write(0, (1, 2), bytes(2), 512),
         LevelScan((ONE, HALF), bytes(2)),
         Turn((ONE, ZERO), bytes(2), 2, 3),
+        Row(bytes([SUM, PRODUCT]), (1, 2), (3, 4), 2, 2, 3),
     )
     for case in some:
         whole = case.encode()
@@ -1171,6 +1321,17 @@ def past_the_sizes():
         yield "too many ground marks to turn", turn_bytes(0, more, 1, 1) + bytes(more)
         yield "too much room for a level's numbers", turn_bytes(1, 1, more, 1) + bytes(5)
         yield "too much room for a level's marks", turn_bytes(1, 1, 1, more) + bytes(5)
+        for place, (what, asked) in enumerate(
+            (
+                ("many kinds of a row", more),
+                ("many lefts of a row", 8 * more),
+                ("many rights of a row", 8 * more),
+                ("much room for a row's numbers", 0),
+                ("much room for a row's marks", 0),
+                ("much room for a row's codes", 0),
+            )
+        ):
+            yield f"too {what}", row_bytes(*(more if i == place else 0 for i in range(6))) + bytes(asked)
 
 
 def not_allowed():
@@ -1228,3 +1389,7 @@ def level_bytes(reading_count, mark_count):
 
 def turn_bytes(reading_count, mark_count, room_numbers, room_marks):
     return struct.pack("<BHHHH", 11, reading_count, mark_count, room_numbers, room_marks)
+
+
+def row_bytes(*counts):
+    return struct.pack("<B6H", 12, *counts)

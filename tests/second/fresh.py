@@ -21,7 +21,7 @@ ROOT = Path(__file__).resolve().parents[2]
 # Where the bytes of a case that differs are kept.
 KEPT = ROOT / "target" / "fresh-case"
 # How many random cases of each row.
-RANDOM = (8000, 4000, 4000, 1200, 6000, 3000, 3000, 1000, 2500, 6000, 6000)
+RANDOM = (8000, 4000, 4000, 1200, 6000, 3000, 3000, 1000, 2500, 6000, 6000, 1000)
 
 
 def boundaries(dice):
@@ -45,6 +45,8 @@ def boundaries(dice):
     yield from chain(cases.turn_place_faults(), cases.level_lists(), cases.turn_rooms(), cases.part_extents())
     yield from chain(cases.part_faults(), cases.part_turns(), cases.plateaus(), cases.longest_levels())
     yield from cases.longest_rooms()
+    yield from chain(cases.single_rows(), cases.rows_of_one_kind(), cases.mixed_rows(), cases.refused_places())
+    yield from chain(cases.row_rooms(), cases.row_lists(), cases.long_row_lists(), cases.longest_rows())
 
 
 def all_allowances(dice):

@@ -4,7 +4,7 @@
     tests/second/hosts.py FILE [--seed N]      fresh cases: all at the boundaries, and random ones among them
     tests/second/hosts.py FILE --recorded      those of crates/replay/stdin, with their lines of crates/replay/stdout
 
-The cases go to FILE, the lines to FILE.expected. A host has an entry for rows 1 to 4, 7 and 9 to 11, for row 5 at 64
+The cases go to FILE, the lines to FILE.expected. A host has an entry for rows 1 to 4, 7 and 9 to 12, for row 5 at 64
 bits where both operands fit, and for row 6 at 64 bits. The seed comes from the clock and is printed; with it the same
 cases come again.
 """
@@ -20,7 +20,7 @@ import record
 import rows
 
 # How many random cases of each row; none of row 8, which no host can call.
-RANDOM = (1500, 800, 800, 150, 1500, 800, 600, 0, 300, 800, 800)
+RANDOM = (1500, 800, 800, 150, 1500, 800, 600, 0, 300, 800, 800, 400)
 
 
 def for_hosts(case):

@@ -1,11 +1,11 @@
-"""The rules once more, in Python's unlimited whole numbers: checked values, recipes, fields, blocks and levels.
+"""The rules once more, in Python's unlimited whole numbers: checked values, recipes, rows, fields, blocks and levels.
 
 This is the second program's own reading of the rules; it shares nothing with the crates. What is cheap to say in two
 ways is said in two ways here, and the two are compared on every case: an operation with an overflowed operand by its
 rule and by numbers that the operand stands for, a recipe's shape by a walk and by the list of all its faults, a run by
-single steps and by what it comes to, a block's layout by looking and by writing the block anew, a packing width by its
-rule and by counting, a field's blocks one by one and value by value, a level by its readings' bits and by the exact
-numbers that they stand for.
+single steps and by what it comes to, a row's operations by the rules and over whole numbers, a block's layout by
+looking and by writing the block anew, a packing width by its rule and by counting, a field's blocks one by one and
+value by value, a level by its readings' bits and by the exact numbers that they stand for.
 Blocks that are written are also read back, searched, and written again.
 
 A checked value is a number, or OVERFLOWED. A refusal is its number; 0 is none.
@@ -18,7 +18,7 @@ WIDTHS = (8, 16, 32, 64)
 OVERFLOWED = None
 LITERAL, SUM, PRODUCT, QUOTIENT, REMAINDER, POWER, LOGARITHM = range(7)
 KIND_WORDS = ("literal", "sum", "product", "quotient", "remainder", "power", "logarithm")
-ITEMS, HAND = 256, 32
+ITEMS, HAND, ROW = 256, 32, 4096
 BLOCK, VALUES, EDITION = 512, 55, 1
 
 DIVISOR_ZERO, BASE_BELOW_TWO, IS_OVERFLOWED, SIGNED_QUOTIENT = 1, 2, 3, 4
@@ -394,6 +394,54 @@ def run(width, kinds, numbers, allowance):
     assert ran == run_by_meaning(most, kinds, numbers, allowance), "the two runs differ"
     assert 2 * ran.steps <= 2 * len(kinds) + width * (len(kinds) - 1), "more steps than the bound"
     return ran
+
+
+# Rows of operations on numbers of 64 bits
+
+
+def element_by_rules(kind, left, right):
+    """What an operation of a row comes to: number, mark and code."""
+    if kind not in range(SUM, LOGARITHM + 1):
+        return 0, 0, KIND
+    code, value = operation_by_rules(limit(64), kind, left, right)
+    return (0, 1, 0) if value is OVERFLOWED else (value, 0, code)
+
+
+def element_by_numbers(kind, left, right):
+    """The same over whole numbers, of which one that is too large isn't shown."""
+    code = refusal_of(limit(64), kind, left, right) if SUM <= kind <= LOGARITHM else KIND
+    number = 0 if code else worth(kind, left, right, CEILING)
+    return (0, 1, 0) if number > limit(64) else (number, 0, code)
+
+
+def element(kind, left, right):
+    three = element_by_rules(kind, left, right)
+    assert three == element_by_numbers(kind, left, right), f"kind {kind} of {left} and {right} differs"
+    return three
+
+
+def row_fault_in_order(kinds, lefts, rights, rooms):
+    """Why a row is refused, by the rules in their order."""
+    if not len(kinds) == len(lefts) == len(rights):
+        return LENGTHS
+    if not 1 <= len(kinds) <= ROW:
+        return COUNT
+    return NO_ROOM if min(rooms) < len(kinds) else 0
+
+
+def row_fault_by_faults(kinds, lefts, rights, rooms):
+    """The same from all faults as if each stood alone. They are looked at in the order of their numbers."""
+    faults = [LENGTHS for one in (kinds, lefts, rights) for other in (kinds, lefts, rights) if len(one) != len(other)]
+    faults += [COUNT for each in (kinds, lefts, rights) if len(each) not in range(1, ROW + 1)]
+    faults += [NO_ROOM for room in rooms for each in (kinds, lefts, rights) if room < len(each)]
+    return min(faults, default=0)
+
+
+def row(kinds, lefts, rights, rooms):
+    """Refusal, and number, mark and code of each operation; `rooms` are the lengths of the three lists for them."""
+    fault = row_fault_in_order(kinds, lefts, rights, rooms)
+    assert fault == row_fault_by_faults(kinds, lefts, rights, rooms), "the two refusals of a row differ"
+    return fault, [] if fault else [element(*each) for each in zip(kinds, lefts, rights)]
 
 
 # Fields

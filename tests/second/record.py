@@ -19,6 +19,7 @@ RANDOM = (700, 300, 250, 60, 300, 150, 150, 40)
 # A row that came later has dice of its own and stands behind, so that the cases before it stay as they are.
 WRITE_SEED, RANDOM_WRITES = 20261116, 12
 LEVEL_SEED, RANDOM_LEVEL_SCANS, RANDOM_TURNS = 20261117, 80, 60
+ROW_SEED, RANDOM_ROWS = 20261118, 5
 # The random recipes of the first row were made when an overflowed operand had no known answer, and are made so still.
 FIRST_RUN = partial(cases.some_run, known=False)
 
@@ -112,12 +113,27 @@ def known():
         yield from (rows.Run(8, allowance, *recipe) for allowance in (steps - 1, steps))
 
 
+def rows_of_operations(dice):
+    """Few rows, and short ones, since there is little room left for their lines; the fresh cases have them all."""
+    yield from every(50, cases.single_rows(few_edges))
+    yield from cases.rows_of_one_kind(few_edges)
+    yield cases.row_of(cases.TELLING)
+    yield cases.every_kind()
+    yield from every(23, cases.refused_places())
+    for more in ((-1, 0, 0), (0, -1, 0), (0, 0, -1), (1, 2, 3)):
+        yield cases.row_of(cases.mixed_operations(2), more)
+    for counts in ((1, 2, 2), (2, 1, 2), (0, 0, 1), (0, 0, 0)):
+        yield cases.row_with_counts(counts, (0, 1, 2))
+    yield from (cases.some_row(dice, lambda some: some.between(1, 40)) for _ in range(RANDOM_ROWS))
+
+
 def recorded():
     dice = cases.Dice(SEED)
     makers = (FIRST_RUN, *cases.SOME[1:])
     random_ones = [maker(dice) for maker, count in zip(makers, RANDOM) for _ in range(count)]
     first_rows = [*tables(), *boundaries(dice), *dice.shuffled(random_ones)]
-    return [*first_rows, *writes(cases.Dice(WRITE_SEED)), *levels(cases.Dice(LEVEL_SEED)), *known()]
+    later_rows = [*writes(cases.Dice(WRITE_SEED)), *levels(cases.Dice(LEVEL_SEED)), *known()]
+    return [*first_rows, *later_rows, *rows_of_operations(cases.Dice(ROW_SEED))]
 
 
 def main():

@@ -15,8 +15,9 @@ Numbers in a case are little-endian: b is 1 byte, h 2, w 4, q 8. A list is its e
 | 9 write | b edition 1, w first block number, h n, h k, w j, n q of numbers, k marks, to be written to a run of j bytes, each 170 | code place length, then the j bytes afterwards |
 | 10 level scan | h n, h k, n w of float bits, k ground marks | code place least greatest, these two as bits |
 | 11 level to field | h n, h k, h i, h j, n w of float bits, k ground marks, to be turned into i numbers, each 7777777, and j marks, each 170 | code place, then the i numbers and j marks afterwards |
+| 12 rows | h n, h k, h j, h a, h b, h c, n kinds, k q of lefts, j q of rights, to be worked out into a numbers, each 7777777, b marks and c codes, each 170 | code place, then the a numbers, b marks and c codes afterwards |
 
-Lists are at most 4,096 elements, those of rows 9 to 11 at most 8,192, and runs of blocks at most 65,536 bytes. What an
+Lists are at most 4,096 elements, those of rows 9 to 12 at most 8,192, and runs of blocks at most 65,536 bytes. What an
 answer doesn't have is 0.
 """
 import struct
@@ -25,7 +26,7 @@ from typing import NamedTuple
 import model
 
 LIST, RUN = 4096, 65536
-# The most elements of a list of rows 9 to 11.
+# The most elements of a list of rows 9 to 12.
 FIELD = 8192
 NUMBER_BEFORE, MARK_BEFORE, BYTE_BEFORE = 7777777, 9, 170
 
@@ -299,7 +300,39 @@ class Turn(NamedTuple):
         return f"a field into {rooms} of {level_words(self.level, self.ground)}"
 
 
-ROWS = (Run, Scan, Read, Search, Operation, Signed, Fit, Plain, Write, LevelScan, Turn)
+class Row(NamedTuple):
+    kinds: bytes
+    lefts: tuple
+    rights: tuple
+    room_numbers: int
+    room_marks: int
+    room_codes: int
+
+    name = "rows"
+
+    @property
+    def rooms(self):
+        return self.room_numbers, self.room_marks, self.room_codes
+
+    def encode(self):
+        head = struct.pack("<B6H", 12, len(self.kinds), len(self.lefts), len(self.rights), *self.rooms)
+        return head + self.kinds + quads(self.lefts) + quads(self.rights)
+
+    def line(self):
+        code, elements = model.row(self.kinds, self.lefts, self.rights, self.rooms)
+        numbers = [code, 0]
+        for place, (room, before) in enumerate(zip(self.rooms, (NUMBER_BEFORE, BYTE_BEFORE, BYTE_BEFORE))):
+            numbers += [element[place] for element in elements] + [before] * (room - len(elements))
+        return line(numbers)
+
+    def words(self):
+        return (
+            f"row into {self.room_numbers} numbers, {self.room_marks} marks and {self.room_codes} codes of kinds"
+            f" {list(self.kinds)}, lefts {list(self.lefts)} and rights {list(self.rights)}"
+        )
+
+
+ROWS = (Run, Scan, Read, Search, Operation, Signed, Fit, Plain, Write, LevelScan, Turn, Row)
 
 
 def encode(cases):

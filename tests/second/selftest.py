@@ -170,6 +170,42 @@ class Tables(unittest.TestCase):
         self.assertEqual(model.scan_level(*accident), (22, place, 0, 0))
         self.assertEqual(model.scan_level(*sound)[:2], (0, 0))
 
+    def test_refusals_of_a_row(self):
+        """Each refusal alone, and each before those that come after it; none of an element's is one of the row's."""
+        for wanted, kinds, lefts, rights, rooms in (
+            (6, 1, 2, 2, (2, 2, 2)),
+            (6, 2, 1, 2, (2, 2, 2)),
+            (6, 2, 2, 1, (0, 0, 0)),
+            (6, 0, 1, 0, (0, 0, 0)),
+            (6, 4097, 4097, 4096, (0, 0, 0)),
+            (7, 0, 0, 0, (0, 0, 0)),
+            (7, 4097, 4097, 4097, (4097, 4097, 4097)),
+            (7, 4097, 4097, 4097, (0, 0, 0)),
+            (19, 2, 2, 2, (1, 2, 2)),
+            (19, 2, 2, 2, (2, 1, 2)),
+            (19, 4096, 4096, 4096, (4096, 4096, 4095)),
+        ):
+            self.assertEqual(model.row(bytes(kinds), [0] * lefts, [0] * rights, rooms), (wanted, []))
+        self.assertEqual(model.row(bytes(4096), [0] * 4096, [0] * 4096, (4096,) * 3), (0, [(0, 0, 8)] * 4096))
+
+    def test_rows(self):
+        """A row's elements by hand: number, mark and code."""
+        most = limit(64)
+        for operation, wanted in (
+            ((1, most, 1), (0, 1, 0)),
+            ((2, 2**32, 2**32 - 1), (2**64 - 2**32, 0, 0)),
+            ((3, 7, 0), (0, 0, 1)),
+            ((4, 7, 2), (1, 0, 0)),
+            ((5, 0, 0), (1, 0, 0)),
+            ((5, 2, 64), (0, 1, 0)),
+            ((6, 2, most), (63, 0, 0)),
+            ((6, 1, 5), (0, 0, 2)),
+            ((0, 1, 2), (0, 0, 8)),
+            ((7, 1, 2), (0, 0, 8)),
+            ((255, 0, 0), (0, 0, 8)),
+        ):
+            self.assertEqual(model.row(*([each] for each in operation), (1, 1, 1)), (0, [wanted]))
+
     def test_roots(self):
         self.assertEqual([cases.root_of(e) for e in (2, 40, 41, 63, 64)], [4294967295, 3, 2, 2, 1])
 
@@ -207,6 +243,21 @@ class Meanings(unittest.TestCase):
                 ("logarithm", 1, OVERFLOWED): (model.BASE_BELOW_TWO, 0),
             },
         )
+
+    def test_rows_are_single_operations(self):
+        """A row of every kind on all pairs of small numbers and of edges, against the operations one by one."""
+        numbers = [*range(40), *(edge for edge in cases.edges(64) if edge >= 40)]
+        pairs = list(product(numbers, repeat=2))
+        for kind in range(model.SUM, model.LOGARITHM + 1):
+            elements = []
+            for start in range(0, len(pairs), model.ROW):
+                lefts, rights = zip(*pairs[start : start + model.ROW])
+                fault, some = model.row([kind] * len(lefts), lefts, rights, (len(lefts),) * 3)
+                self.assertEqual(fault, 0)
+                elements += some
+            for (left, right), (number, mark, code) in zip(pairs, elements, strict=True):
+                single = rows.Operation(64, kind, left, right)
+                self.assertEqual(single.line(), rows.line([code, 0, mark, number]), single.words())
 
     def test_powers_and_logarithms_at_8_bits(self):
         for base in range(256):

@@ -14,11 +14,11 @@ pub enum Refusal {
     QuotientTooLarge,
     // width not 8, 16, 32, 64
     UnknownWidth,
-    // lent lists of one recipe or field differ in length
+    // lent lists of one recipe, row or field differ in length
     LengthsDiffer,
-    // recipe of 0 items or above 256
+    // recipe of 0 items or above 256, or row of 0 operations or above 4,096
     ItemCount,
-    // unknown kind, or operation with a number not 0
+    // unknown kind, literal in a row, or operation with a number not 0
     UnknownKind,
     // literal above M
     LiteralTooLarge,

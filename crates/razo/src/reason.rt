@@ -15,8 +15,8 @@ overflowed value where a number is needed
 signed quotient that doesn't fit
 width not 8, 16, 32 or 64
 lists that differ in length
-recipe of 0 items or above 256
-unknown kind, or operation with a number not 0
+recipe of 0 items or above 256, or row of 0 operations or above 4,096
+unknown kind, literal in a row, or operation with a number not 0
 literal too large for the width
 operation with fewer than two values on hand
 literal that would be the 33rd on hand

@@ -3,20 +3,17 @@
 use crate::answers;
 use crate::case_bytes;
 use crate::line;
+use crate::types::BYTE_BEFORE;
 use crate::types::Case;
 use crate::types::Fault;
 use crate::types::MOST_VALUES;
+use crate::types::NUMBER_BEFORE;
 use level::scan::scan;
 use level::types::LevelScan;
 use turn::turn::turn;
 use turn::types::Turn;
 ghost use Prim.Native.Nat.{_*_, _≤_};
 ghost use lib.ListN.{length};
-
-// What stands in the lent lists before the turning. No field's mark is 170.
-const NUMBER_BEFORE: u64 = 7777777;
-
-const MARK_BEFORE: u8 = 170;
 
 // The float with these bits. All NaNs are one: which it was is no matter for any answer.
 fn float_of(bits: u32) -> f32 {
@@ -141,7 +138,7 @@ pub(crate) fn replay_turn(bytes: &[u8], out: &mut [u8], at: usize) -> Case {
     }
     let mut level = [0f32; MOST_VALUES];
     let mut numbers = [NUMBER_BEFORE; MOST_VALUES];
-    let mut marks = [MARK_BEFORE; MOST_VALUES];
+    let mut marks = [BYTE_BEFORE; MOST_VALUES];
     let at = put_turning(
         &bytes[9..from],
         &bytes[from..used],

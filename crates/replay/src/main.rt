@@ -16,6 +16,7 @@ mod scans;
 mod searches;
 mod types;
 mod values;
+mod whole_rows;
 mod writes;
 
 use input::Window;
@@ -41,6 +42,7 @@ fn replay_short(bytes: &[u8], row: u8, out: &mut [u8], at: usize) -> Case {
         9 => writes::replay(bytes, out, at),
         10 => levels::replay_scan(bytes, out, at),
         11 => levels::replay_turn(bytes, out, at),
+        12 => whole_rows::replay(bytes, out, at),
         _ => Case::Malformed(Fault::UnknownRow),
     }
 }
@@ -173,7 +175,7 @@ fn replay(input: &mut [u8], numbers: &mut [u64], marks: &mut [u8], out: &mut [u8
 }
 
 fn main() {
-    let mut input = [0u8; 131072];
+    let mut input = [0u8; 262144];
     let mut numbers = [0u64; MOST_ELEMENTS];
     let mut marks = [0u8; MOST_ELEMENTS];
     let mut out = [0u8; 65536];

@@ -2,6 +2,7 @@
 use crate::answers;
 use crate::case_bytes;
 use crate::line;
+use crate::types::BYTE_BEFORE;
 use crate::types::Case;
 use crate::types::Fault;
 use crate::types::MOST_BYTES;
@@ -10,9 +11,6 @@ use write::types::Write;
 use write::write::write;
 ghost use Prim.Native.Nat.{_*_, _≤_};
 ghost use lib.ListN.{length};
-
-// What stands in each byte of the lent run before the writing.
-const BYTE_BEFORE: u8 = 170;
 
 // The edition that there is.
 const EDITION: u8 = 1;

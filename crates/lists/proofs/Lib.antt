@@ -1,0 +1,1 @@
+-- This crate has no laws of its own.

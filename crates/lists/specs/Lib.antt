@@ -1,0 +1,1 @@
+-- This crate has no definitions of its own: its entry speaks in those of `rows`.

@@ -1,0 +1,9 @@
+-- Laws on what an operation of a row comes to, on the lengths of its lists, on the loop that fills them and on what they
+-- hold afterwards, and the promises of a row.
+pub mod Elements
+pub mod Lengths
+pub mod Filling
+pub mod Again
+pub mod After
+pub mod Unique
+pub mod Promises
