@@ -1,6 +1,6 @@
--- What a row promises, one named theorem for each promise, of any operations os and any lent lists. The contracts of the
--- function and of the entry for plain lists say `Rows` of the lists, and that of the entry for records says `Rows` of the
--- lists of its fields; `Unique` says that nothing else meets it.
+-- What a row promises, one named theorem for each promise, of any operations os and any lent lists. The contracts of
+-- the function and of the entry for plain lists say `Rows` of the lists, and that of the entry for records says `Rows`
+-- of the lists of its fields; `Unique` says that nothing else meets it.
 -- Assumes nothing.
 use mathlib.Core.Path.{_≡_, refl, ap, sym, _∙_}
 use mathlib.Core.Logic.{_↔_, _⊎_, inl, inr}
@@ -209,7 +209,8 @@ module _ (records : List OperationRecord) (numbers marks codes : List ℕ) where
       (lists (map (λ o. o .kind) records) (map (λ o. o .left) records) (map (λ o. o .right) records))
       numbers marks codes s ns' ms' cs' →
       (r ≡ s) × (ns ≡ ns') × (ms ≡ ms') × (cs ≡ cs')
-  records-equal-lists r s ns ms cs ns' ms' cs' = row-entry-unique (fields records) numbers marks codes ns ms cs ns' ms' cs' r s
+  records-equal-lists r s ns ms cs ns' ms' cs' =
+      row-entry-unique (fields records) numbers marks codes ns ms cs ns' ms' cs' r s
 
   -- 6 is never given
   pub records-even : codeFor (fields records) numbers marks codes ≡ 6 → ⊥
@@ -221,47 +222,53 @@ module _ (records : List OperationRecord) (numbers marks codes : List ℕ) where
 
 -- ---- a row of one operation, beside the entry for that operation alone
 
-module _ (k l r : ℕ) (o : Operation) (e : kindOf k ≡ operation o) (numbers marks codes result : List ℕ) (some : (1 ≤ length numbers) × (1 ≤ length marks) × (1 ≤ length codes)) (room : 16 ≤ length result) where
-  abbrev one : Operations
-  one = lists (k ∷ []) (l ∷ []) (r ∷ [])
+-- three lists with a place each
+abbrev Some : (numbers marks codes : List ℕ) → Type 0
+Some numbers marks codes = (1 ≤ length numbers) × (1 ≤ length marks) × (1 ≤ length codes)
 
-  abbrev single-answer : Paper
-  single-answer = answerOf o l r
+module _ (k l r : ℕ) (o : Operation) (e : kindOf k ≡ operation o) (numbers marks codes result : List ℕ) where
+  module _ (some : Some numbers marks codes) (room : 16 ≤ length result) where
+    abbrev one : Operations
+    one = lists (k ∷ []) (l ∷ []) (r ∷ [])
 
-  one-done : codeFor one numbers marks codes ≡ 0
-  one-done =
-      row-0-exactly one numbers marks codes .1
-      ((refl, refl), (omega arith, omega arith), some)
+    abbrev single-answer : Paper
+    single-answer = answerOf o l r
 
-  -- its code is what the entry returns
-  pub one-code : getD (codesAfter one numbers marks codes) 0 0 ≡ returned single-answer result
-  one-code =
-      elements-written one numbers marks codes one-done 0 (omega arith) .2
-      ∙ ap (λ p. p .code) (element-is-operation k l r o e)
-      ∙ roomy-returns single-answer result room
+    -- it is never refused itself
+    pub one-done : codeFor one numbers marks codes ≡ 0
+    one-done =
+        row-0-exactly one numbers marks codes .1
+        ((refl, refl), (omega arith, omega arith), some)
 
-  -- with 0 its number and mark are what the entry writes
-  pub one-value
-      : l ≤ limitOf 64 → r ≤ limitOf 64 → returned single-answer result ≡ 0 →
-      (getD (numbersAfter one numbers marks codes) 0 0 ≡ little (part 0 8 (afterwards single-answer result)))
-      × (getD (marksAfter one numbers marks codes) 0 0 ≡ byteAt (afterwards single-answer result) 8)
-  one-value left right z =
-      let w = elements-written one numbers marks codes one-done 0 (omega arith) in
-      let a = element-is-operation k l r o e in
-      let allowed = single.returned-0-exactly o l r result .0 z .1 in (
-        w .0 ∙ ap (λ p. p .number) a ∙ sym (single.number-read o l r result room allowed left right),
-        w .1 ∙ ap (λ p. p .mark) a ∙ sym (single.mark-written o l r result room allowed),
-      )
+    -- its code is what the entry returns
+    pub one-code : getD (codesAfter one numbers marks codes) 0 0 ≡ returned single-answer result
+    one-code =
+        elements-written one numbers marks codes one-done 0 (omega arith) .2
+        ∙ ap (λ p. p .code) (element-is-operation k l r o e)
+        ∙ roomy-returns single-answer result room
 
-  -- and where the entry refuses, and writes nothing, both are 0
-  pub one-refused
-      : (returned single-answer result ≡ 0 → ⊥) →
-      (getD (numbersAfter one numbers marks codes) 0 0 ≡ 0)
-      × (getD (marksAfter one numbers marks codes) 0 0 ≡ 0)
-      × (afterwards single-answer result ≡ result)
-  one-refused m =
-      let w = elements-written one numbers marks codes one-done 0 (omega arith) in
-      let c : elementOf k l r .code ≡ returned single-answer result =
-      ap (λ p. p .code) (element-is-operation k l r o e) ∙ roomy-returns single-answer result room in
-      let z = element-refused k l r (λ h. m (sym c ∙ h)) in
-      (w .0 ∙ z .0, w .1 ∙ z .1, single.refusal-changes-nothing o l r result m)
+    -- with 0 its number and mark are what the entry writes
+    pub one-value
+        : l ≤ limitOf 64 → r ≤ limitOf 64 → returned single-answer result ≡ 0 →
+        (getD (numbersAfter one numbers marks codes) 0 0 ≡ little (part 0 8 (afterwards single-answer result)))
+        × (getD (marksAfter one numbers marks codes) 0 0 ≡ byteAt (afterwards single-answer result) 8)
+    one-value left right z =
+        let w = elements-written one numbers marks codes one-done 0 (omega arith) in
+        let a = element-is-operation k l r o e in
+        let allowed = single.returned-0-exactly o l r result .0 z .1 in (
+          w .0 ∙ ap (λ p. p .number) a ∙ sym (single.number-read o l r result room allowed left right),
+          w .1 ∙ ap (λ p. p .mark) a ∙ sym (single.mark-written o l r result room allowed),
+        )
+
+    -- and where the entry refuses, and writes nothing, both are 0
+    pub one-refused
+        : (returned single-answer result ≡ 0 → ⊥) →
+        (getD (numbersAfter one numbers marks codes) 0 0 ≡ 0)
+        × (getD (marksAfter one numbers marks codes) 0 0 ≡ 0)
+        × (afterwards single-answer result ≡ result)
+    one-refused m =
+        let w = elements-written one numbers marks codes one-done 0 (omega arith) in
+        let c : elementOf k l r .code ≡ returned single-answer result =
+        ap (λ p. p .code) (element-is-operation k l r o e) ∙ roomy-returns single-answer result room in
+        let z = element-refused k l r (λ h. m (sym c ∙ h)) in
+        (w .0 ∙ z .0, w .1 ∙ z .1, single.refusal-changes-nothing o l r result m)

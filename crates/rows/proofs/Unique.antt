@@ -25,7 +25,8 @@ module _ (os : Operations) (numbers marks codes : List ℕ) (ns ms cs ns' ms' cs
   row-entry-unique r s g h = (g .0 ∙ sym (h .0), g .1 ∙ sym (h .1), g .2 ∙ sym (h .2), g .3 ∙ sym (h .3))
 
   pub row-unique
-      : (a b : Row) → Rows os numbers marks codes (rowed a) ns ms cs → Rows os numbers marks codes (rowed b) ns' ms' cs' →
+      : (a b : Row) → Rows os numbers marks codes (rowed a) ns ms cs →
+      Rows os numbers marks codes (rowed b) ns' ms' cs' →
       (a ≡ b) × (ns ≡ ns') × (ms ≡ ms') × (cs ≡ cs')
   row-unique a b g h =
       let u = row-entry-unique (rowed a) (rowed b) g h in (row-answer-unique a b (u .0), u .1, u .2, u .3)

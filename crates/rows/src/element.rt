@@ -27,8 +27,8 @@ fn below_two(kind: u8, left: u64, right: u64) -> Answer64
     Answer64::Value(checked_add(LIMIT, left, right))
 }
 
-// The single operation's own answer, or 8 for a kind that is none of the six. Sums are told from the others by a test of
-// their own, so that a row of them needs no table of jumps.
+// The single operation's own answer, or 8 for a kind that is none of the six. Sums are told from the others by a test
+// of their own, so that a row of them needs no table of jumps.
 pub(crate) fn answer(operation: OperationRecord) -> Answer64
     ensures { λ a. ⌜ paper a ≡ elementOf (operation .kind) (operation .left) (operation .right) ⌝ }
 {

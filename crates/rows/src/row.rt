@@ -5,11 +5,12 @@ use crate::types::Row;
 use checked::refusal::Refusal;
 use checked::types::Answer64;
 use checked::types::Checked64;
+use store::bytes::put_zeros;
 ghost use mathlib.Core.Path.{_≡_};
 ghost use Prim.Native.Nat.{_≤_, _<_};
 ghost use lib.ListN.{length, set};
 ghost use Rattle.checked.specs.Paper.{paper, given};
-ghost use Rattle.rows.specs.Rows.{Operations, lists, elementOf, codeOf, codeFor, numbersAfter, marksAfter, codesAfter};
+ghost use Rattle.rows.specs.Rows.{lists, elementOf, codeOf, codeFor, numbersAfter, marksAfter, codesAfter};
 ghost use Rattle.rows.specs.Answers.{rowed};
 ghost use Rattle.rows.specs.Turns.{turnsOf, cleared, noted};
 
@@ -19,8 +20,8 @@ const MOST: usize = 4096;
 // What stands in the place of a refused operation's number.
 const NO_NUMBER: u64 = 0;
 
-// Why a row of these lengths is refused, if it is: of kinds, lefts and rights, and of the lists that are to hold numbers,
-// marks and codes.
+// Why a row of these lengths is refused, if it is: of kinds, lefts and rights, and of the lists that are to hold
+// numbers, marks and codes.
 pub(crate) fn begin(
     kinds: usize,
     lefts: usize,
@@ -55,18 +56,6 @@ pub(crate) fn begin(
     Row::Done
 }
 
-// The first places of a list are cleared.
-fn clear(count: usize, bytes: &mut [u8])
-    requires { ⌜ count ≤ length (now bytes) ⌝ }
-    ensures { λ r. ⌜ now (bytes .exit) ≡ cleared count (now (bytes .entry)) ⌝ }
-{
-    let mut place = 0;
-    while place < count {
-        bytes[place] = 0;
-        place = place + 1;
-    }
-}
-
 // How many operations are worked out: none where the row is refused. Otherwise their marks and codes are cleared first,
 // many at a time, so that an operation which fits has only its number to write.
 pub(crate) fn ready<'a>(code: u32, count: usize, marks: &'a mut [u8], codes: &'a mut [u8]) -> usize
@@ -79,8 +68,8 @@ pub(crate) fn ready<'a>(code: u32, count: usize, marks: &'a mut [u8], codes: &'a
     if code != 0 {
         return 0;
     }
-    clear(count, marks);
-    clear(count, codes);
+    put_zeros(marks, 0, count);
+    put_zeros(codes, 0, count);
     count
 }
 
@@ -154,8 +143,8 @@ pub(crate) fn step<'a>(
     put_answer(answer(operation), i, numbers, marks, codes);
 }
 
-// A row of plain lists: element i of each result is that of the operation of kind i on left i and right i, refused or not,
-// and what is past the last stays. On refusal all stays.
+// A row of plain lists: element i of each result is that of the operation of kind i on left i and right i, refused or
+// not, and what is past the last stays. On refusal all stays.
 pub fn row(
     kinds: &[u8],
     lefts: &[u64],

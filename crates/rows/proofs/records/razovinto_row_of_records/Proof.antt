@@ -70,8 +70,9 @@ use Rattle.rows.specs.Rows.{Operations, fields, codeFor, numbersAfter, m
 use Rattle.rows.specs.Turns.{cleared}
 use Rattle.rows.proofs.types.OperationRecord as T
 use Rattle.rows.proofs.types.OperationRecord.Laws as T′
-use Rattle.rows.proofs.Filling.{Inside, inside, turns, enough, Filled, filled-first, filled-turn, filled-last}
-use Rattle.rows.proofs.Filling.{marks-long, codes-long, no-record, record-at, records-code}
+use Rattle.rows.proofs.Turns.{Inside, inside, turns, enough}
+use Rattle.rows.proofs.Filling.{Filled, filled-first, filled-turn, filled-last, marks-long, codes-long}
+use Rattle.rows.proofs.Fields.{no-record, record-at, records-code}
 use Rattle.rows.proofs.records.code_for.Symbol as code-for-def
 use Rattle.rows.proofs.records.code_for.Symbol.{name as #rows·records·code-for}
 use Rattle.rows.proofs.records.code_for.Met as code-for-thm

@@ -7,7 +7,7 @@ use lib.ListN.{set}
 use Rattle.checked.specs.Paper.{paper, numberOf}
 use Rattle.checked.proofs.Arms.{at}
 use Rattle.rows.specs.Turns.{noted}
-use Rattle.rows.proofs.Filling.{value-noted, refusal-noted}
+use Rattle.rows.proofs.Noted.{value-noted, refusal-noted}
 use borrow.Author.Needs.{needs}
 use Rattle.rows.proofs.row.put_answer.Statement.{statement}
 use Rattle.rows.proofs.row.put_answer.Tie as tie

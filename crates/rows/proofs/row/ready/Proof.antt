@@ -1,10 +1,11 @@
 -- `row::ready` meets its contract.
 -- Assumes nothing.
 use mathlib.Core.Path.{_≡_, ap, sym, _∙_}
+use native.Mathlib.Omega.{arith}
 use Rattle.places.proofs.Tables.{over-none}
 use Rattle.rows.specs.Turns.{cleared}
-use Rattle.rows.proofs.Filling.{all-turns, no-turns}
-use native.Mathlib.Omega.{arith}
+use Rattle.rows.proofs.Turns.{all-turns, no-turns}
+use Rattle.rows.proofs.Noted.{zeros-clear}
 use borrow.Author.Needs.{needs}
 use Rattle.rows.proofs.row.ready.Statement.{statement}
 use Rattle.rows.proofs.row.ready.Tie as tie
@@ -20,19 +21,11 @@ returns c =
       ),
     )
 
-clear-requires : tie.Need-clear-requires
-clear-requires c κs =
-    let e = c .before in
-    let s = e .before .before .before in
-    let a = all-turns (s .args .code) (s .args .count) (e .if1 .left) in
-    let h = s .pre .0 in omega arith
+put-zeros-requires : tie.Need-put-zeros-requires
+put-zeros-requires c κs = search needs
 
-clear-requires-2 : tie.Need-clear-requires-2
-clear-requires-2 c κs =
-    let e = c .before .before .before .before .before in
-    let s = e .before .before .before in
-    let a = all-turns (s .args .code) (s .args .count) (e .if1 .left) in
-    let h = s .pre .1 in omega arith
+put-zeros-requires-2 : tie.Need-put-zeros-requires-2
+put-zeros-requires-2 c κs = search needs
 
 same-length : tie.Need-same-length
 same-length c = search needs
@@ -43,16 +36,23 @@ same-length-2 c = search needs
 returns-2 : tie.Need-returns-2
 returns-2 c =
     let e = c .before .before .before .before .before .before .before .before in
-    let g = e .before .before .before .args in
-    let a = sym (all-turns (g .code) (g .count) (e .if1 .left)) in (
-      a,
+    let s = e .before .before .before in
+    let g = s .args in
+    let a = all-turns (g .code) (g .count) (e .if1 .left) in
+    let m = s .pre .0 in
+    let k = s .pre .1 in (
+      sym a,
       (
-        c .before .before .before .before .before .before .clear .ensures ∙ ap (λ n. cleared n (g .marks .now)) a,
-        c .before .before .clear2 .ensures ∙ ap (λ n. cleared n (g .codes .now)) a,
+        c .before .before .before .before .before .before .put-zeros .ensures
+            ∙ zeros-clear (g .count) (g .marks .now) (omega arith)
+            ∙ ap (λ n. cleared n (g .marks .now)) (sym a),
+        c .before .before .put-zeros2 .ensures
+            ∙ zeros-clear (g .count) (g .codes .now) (omega arith)
+            ∙ ap (λ n. cleared n (g .codes .now)) (sym a),
       ),
     )
 
 pub ready-spec : {M : Type 1} → statement M
 ready-spec =
     tie.close
-    (tie.spec returns clear-requires clear-requires-2 same-length same-length-2 returns-2)
+    (tie.spec returns put-zeros-requires put-zeros-requires-2 same-length same-length-2 returns-2)

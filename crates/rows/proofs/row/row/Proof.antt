@@ -8,8 +8,8 @@ use native.Mathlib.Omega.{arith}
 use lib.ListN.{length}
 use Rattle.rows.specs.Rows.{Operations, lists, elementAt}
 use Rattle.rows.specs.Turns.{turnsOf, cleared}
-use Rattle.rows.proofs.Filling.{Filled, filled-first, filled-turn, filled-last, marks-long, codes-long, turns, enough}
-use Rattle.rows.proofs.Filling.{Inside, inside}
+use Rattle.rows.proofs.Turns.{Inside, inside, turns, enough}
+use Rattle.rows.proofs.Filling.{Filled, filled-first, filled-turn, filled-last, marks-long, codes-long}
 use borrow.Author.Needs.{needs}
 use Rattle.rows.proofs.row.row.Statement.{statement}
 use Rattle.rows.proofs.row.row.Tie as tie
@@ -88,7 +88,8 @@ ready-requires c κs =
 
 loop-holds : tie.Need-loop-holds Inv-loop μ-loop
 loop-holds c =
-    let g = start (began c) .args in (filled-first (operations (began c)) (g .numbers .now) (blank-marks c) (blank-codes c), omega arith)
+    let g = start (began c) .args in
+    (filled-first (operations (began c)) (g .numbers .now) (blank-marks c) (blank-codes c), omega arith)
 
 shared-slice-read-t24 : tie.Need-shared-slice-read-t24 Inv-loop μ-loop
 shared-slice-read-t24 c = within (c .before) .kinds
@@ -136,9 +137,9 @@ loop-again c =
     let t = l .before .before in
     let g = start (began t) .args in
     let v = l .before .loop in (
-      filled-turn (operations (began t)) (g .numbers .now) (g .marks .now) (g .codes .now) (blank-marks t) (blank-codes t)
-          (ready-marks t) (ready-codes t) (v .i) (v .numbers) (v .marks) (v .codes) (s .last .1 .1 .0) (s .last .1 .1 .1 .0)
-          (s .last .1 .1 .1 .1 .0) (elementAt (operations (began t)) (v .i)) (v .inv .0) refl (taken l) (s .ensures),
+      filled-turn (operations (began t)) (g .numbers .now) (g .marks .now) (g .codes .now) (blank-marks t)
+          (blank-codes t) (ready-marks t) (ready-codes t) (v .i) (v .numbers) (v .marks) (v .codes)
+          (s .last .1 .1 .0) (s .last .1 .1 .1 .0) (s .last .1 .1 .1 .1 .0) (elementAt (operations (began t)) (v .i)) (v .inv .0) refl (taken l) (s .ensures),
       omega arith,
     )
 
@@ -166,8 +167,8 @@ returns c =
     let g = start (began t) .args in
     let e = ready-many t in (
       began t .before .begin .ensures,
-      filled-last (operations (began t)) (g .numbers .now) (g .marks .now) (g .codes .now) (blank-marks t) (blank-codes t)
-          (ready-marks t) (ready-codes t) (l .loop .i) (l .loop .numbers) (l .loop .marks) (l .loop .codes)
+      filled-last (operations (began t)) (g .numbers .now) (g .marks .now) (g .codes .now) (blank-marks t)
+          (blank-codes t) (ready-marks t) (ready-codes t) (l .loop .i) (l .loop .numbers) (l .loop .marks) (l .loop .codes)
           (l .loop .inv .0) (omega arith),
     )
 
