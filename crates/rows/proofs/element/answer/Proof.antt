@@ -64,7 +64,8 @@ returns-7 : tie.Need-returns-7
 returns-7 c =
     let o = c .before .before .args .operation in
     let n = c .match .rest in
-    sym (no-operation (o .kind) (o .left) (o .right) (c .before .if1 .left) (n .0 .0 .0 .0 .1) (n .0 .0 .0 .1) (n .0 .0 .1)
+    sym (no-operation (o .kind) (o .left) (o .right) (c .before .if1 .left) (n .0 .0 .0 .0 .1) (n .0 .0 .0 .1)
+    (n .0 .0 .1)
     (n .0 .1) (n .1))
 
 pub answer-spec : {M : Type 1} → statement M

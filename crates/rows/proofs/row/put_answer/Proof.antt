@@ -48,7 +48,8 @@ same-length-2 c = search needs
 
 returns : tie.Need-returns
 returns c =
-    let g = c .before .before .before .before .before .before .before .before .before .before .before .before .before .args in
+    let g = c .before .before .before .before .before .before .before .before .before .before .before .before .before
+    .args in
     let v = c .before .before .before .before .before .before .before .before .answer .given in
     let e = c .before .before .before .before .put-value .ensures in (
       at (λ x. set (g .numbers .now) (g .i) (paper x .number)) (e .0) (v .1),
@@ -72,7 +73,8 @@ returns-2 c =
       (
         at (λ x. noted (g .i) (paper x .mark) (g .marks .now)) refl (v .1),
         at (λ x. noted (g .i) (paper x .code) (g .codes .now))
-            (ap (set (g .codes .now) (g .i)) (c .number .ensures) ∙ refusal-noted (v .0 .0) (g .i) (g .codes .now)) (v .1),
+            (ap (set (g .codes .now) (g .i)) (c .number .ensures) ∙ refusal-noted (v .0 .0) (g .i) (g .codes .now))
+            (v .1),
       ),
     )
 

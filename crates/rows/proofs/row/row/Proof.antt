@@ -139,7 +139,8 @@ loop-again c =
     let v = l .before .loop in (
       filled-turn (operations (began t)) (g .numbers .now) (g .marks .now) (g .codes .now) (blank-marks t)
           (blank-codes t) (ready-marks t) (ready-codes t) (v .i) (v .numbers) (v .marks) (v .codes)
-          (s .last .1 .1 .0) (s .last .1 .1 .1 .0) (s .last .1 .1 .1 .1 .0) (elementAt (operations (began t)) (v .i)) (v .inv .0) refl (taken l) (s .ensures),
+          (s .last .1 .1 .0) (s .last .1 .1 .1 .0) (s .last .1 .1 .1 .1 .0) (elementAt (operations (began t)) (v .i))
+          (v .inv .0) refl (taken l) (s .ensures),
       omega arith,
     )
 
@@ -168,7 +169,8 @@ returns c =
     let e = ready-many t in (
       began t .before .begin .ensures,
       filled-last (operations (began t)) (g .numbers .now) (g .marks .now) (g .codes .now) (blank-marks t)
-          (blank-codes t) (ready-marks t) (ready-codes t) (l .loop .i) (l .loop .numbers) (l .loop .marks) (l .loop .codes)
+          (blank-codes t) (ready-marks t) (ready-codes t) (l .loop .i) (l .loop .numbers) (l .loop .marks)
+          (l .loop .codes)
           (l .loop .inv .0) (omega arith),
     )
 

@@ -32,7 +32,8 @@ same-length-3 c = search needs
 
 returns : tie.Need-returns
 returns c =
-    let g = c .before .before .before .before .before .before .before .before .before .before .before .before .before .before .args in
+    let g = c .before .before .before .before .before .before .before .before .before .before .before .before .before
+    .before .args in
     let a = c .before .before .before .before .before .before .before .before .before .before .answer .ensures in
     let e = c .before .before .before .before .before .before .put-answer .ensures in (
       e .0 ∙ ap (λ p. set (g .numbers .now) (g .i) (p .number)) a,

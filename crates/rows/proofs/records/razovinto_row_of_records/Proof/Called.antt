@@ -3,9 +3,11 @@
 --     asks-code, tells-code        what `code_for` is handed, and what is known once it has returned
 --     lends, returns   a list that is lent again for a lifetime of a call, and comes back (`Again.antt`)
 --     Two              what the walk owns of marks and codes between two calls
---     lends-two, returns-two       both are lent again for a lifetime which is made for the call, and come back once that
+--     lends-two, returns-two       both are lent again for a lifetime which is made for the call, and come back once
+-- that
 --                      lifetime is ended. They are the last two parameters of `ready` and of `step`
---     asks-ready, tells-ready      what `ready` is handed, with what stays here of the two; and what is known once it has
+--     asks-ready, tells-ready      what `ready` is handed, with what stays here of the two; and what is known once it
+-- has
 --                      returned, with the two as it says
 --     Lists            what the walk owns of all three lists
 --     asks-step, tells-step        likewise of `step`, which is lent the numbers for the same lifetime
@@ -25,8 +27,10 @@ use prog.Routine.{Routine}
 use prog.Wp.{Heap}
 use ghost.Atoms.{Atoms, sem}
 use contract.Monad.{Fun, fact, factI}
-use types.Kit.{Given, Goal, Item, ‵, raw, some, later, _⊛_, mean, Step as Rule, step as rule, _$_, _∵_, !, qed, move, keep, drop}
-use types.Kit.{use0, use1, use3, split, split3, join, pick, fsplit, fjoin, feqL, await, updating, now as at-once, check, show, done}
+use types.Kit.{Given, Goal, Item, ‵, raw, some, later, _⊛_, mean, Step as Rule, step as rule, _$_, _∵_, !, qed, move}
+use types.Kit.{keep, drop}
+use types.Kit.{use0, use1, use3, split, split3, join, pick, fsplit, fjoin, feqL, await, updating, now as at-once, check}
+use types.Kit.{show, done}
 use types.Tokens.{lft-new, lft-end}
 use denote.RattleType.{RattleType}
 use denote.Laws.{Is, shows}
@@ -102,7 +106,8 @@ module _ (n a b c : ℕ) where
 
 -- ---- that a lifetime has ended can be known twice
 dead-too
-    : {M : Type 1} {𝓤 : URA M} {H : Heap 𝓤} {A : Atoms 𝓤} {K : Type 0} {W : Given 𝓤 H A} {Γ : List (Item 𝓤)} {G : Goal 𝓤 H} →
+    : {M : Type 1} {𝓤 : URA M} {H : Heap 𝓤} {A : Atoms 𝓤} {K : Type 0} {W : Given 𝓤 H A} {Γ : List (Item 𝓤)}
+    {G : Goal 𝓤 H} →
     K → {κ : Lft} → Rule K W (‵ (fdead κ) ∷ ‵ (fdead κ) ∷ Γ) G (‵ (fdead κ) ∷ Γ) G
 dead-too {W = W} t {κ} = rule (λ s. use1 W (‵ (fdead κ) ⊛ ‵ (fdead κ)) (W .lfts .dead-dup κ) $ split t $ s)
 
@@ -135,7 +140,8 @@ module _ (R : RattleType) (ℓ : Lifetime) (κ : Lft) (q : Share) (x : RefT (Lis
         subst (λ (m : ℕ).
         ent 𝓤 (sep 𝓤 (sem 𝓤 H A (MutSlice ℓ κ R .own (at-last x ys) (sliceVal (x .ptr) m ∷ []))) (A .lft κ q))
         (H .⇛ (ex 𝓤 (λ (δ : GName).
-        sep 𝓤 (sem 𝓤 H A (MutSlice (named 0) κ′ R .own (under δ ys) (sliceVal (x .ptr) m ∷ []))) (sem 𝓤 H A (Away κ′ δ ys))))))
+        sep 𝓤 (sem 𝓤 H A (MutSlice (named 0) κ′ R .own (under δ ys) (sliceVal (x .ptr) m
+        ∷ []))) (sem 𝓤 H A (Away κ′ δ ys))))))
         e (lends-again R κ κ′ q (x .name) (x .ptr .0) (x .ptr .1) 𝓤 H A W ℓ (named 0) ys)
 
     pub returns
@@ -148,7 +154,8 @@ module _ (R : RattleType) (ℓ : Lifetime) (κ : Lft) (q : Share) (x : RefT (Lis
         use3 W (later (‵ (Here zs) ⊛ ‵ (flft κ q))) (subst (λ (m : ℕ).
         ent 𝓤 (sep 𝓤 (A .dead κ′) (sep 𝓤 (sem 𝓤 H A (Away κ′ δ ys)) (sem 𝓤 H A (finally R δ zs))))
         (H .⇛ (sep 𝓤 (sem 𝓤 H A (MutSlice ℓ κ R .own (at-last x zs) (sliceVal (x .ptr) m ∷ []))) (A .lft κ q))))
-        e (comes-back R κ κ′ q (x .name) (x .ptr .0) (x .ptr .1) 𝓤 H A W ℓ (named 0) ys δ zs (subst (Room R) (sym e) room) l)) $
+        e (comes-back R κ κ′ q (x .name) (x .ptr .0) (x .ptr .1) 𝓤 H A W ℓ (named 0) ys δ zs
+        (subst (Room R) (sym e) room) l)) $
         await ! tt $ at-once ! $ done !)
 
 -- ---- marks and codes
@@ -193,7 +200,8 @@ module _ (κ₂ κ₃ : Lft) (q₂ q₃ : Share) (marks codes : RefT (List ℕ))
     abbrev Codes-away : ℕ → GName → Fml
     Codes-away ν δ = Away u8 (named 3) κ₃ q₃ codes (ν ∷ []) δ (h .in-codes)
 
-    -- both as a callee's last two parameters: what it is handed; what stays here; and what it says of them, that they are z
+    -- both as a callee's last two parameters: what it is handed; what stays here; and what it says of them, that they
+    -- are z
     -- at last
     abbrev two : Names → RefT (List ℕ) × (RefT (List ℕ) × Unit {0})
     two d = (
@@ -212,45 +220,48 @@ module _ (κ₂ κ₃ : Lft) (q₂ q₃ : Share) (marks codes : RefT (List ℕ))
         fsep (Left u8 (named 2) κ₂ q₂ marks (d .of-marks) (h .in-marks) (z .in-marks))
         (fsep (Left u8 (named 3) κ₃ q₃ codes (d .of-codes) (h .in-codes) (z .in-codes)) ftrue)
 
-    module _ {M : Type 1} (𝓤 : URA M) (H : Heap 𝓤) (A : Atoms 𝓤) (W : Given 𝓤 H A) (long : BytesLong marks codes h) where
-      -- with the lifetime's token
-      abbrev Two-lent : Names → Item 𝓤
-      Two-lent d = ‵ (flft (d .lifetime ∷ []) fullShare) ⊛ ‵ (Two-there d) ⊛ ‵ (Two-away d)
+    module _ {M : Type 1} (𝓤 : URA M) (H : Heap 𝓤) (A : Atoms 𝓤) (W : Given 𝓤 H A) (long : BytesLong marks codes h)
+      where
+        -- with the lifetime's token
+        abbrev Two-lent : Names → Item 𝓤
+        Two-lent d = ‵ (flft (d .lifetime ∷ []) fullShare) ⊛ ‵ (Two-there d) ⊛ ‵ (Two-away d)
 
-      lends-two : ent 𝓤 (mean 𝓤 H A (Two 𝓤 h)) (H .⇛ (ex 𝓤 (λ (d : Names). mean 𝓤 H A (Two-lent d))))
-      lends-two =
-          qed W (Two 𝓤 h ∷ []) ∵ updating ! $ split ! $ lft-new ! tt (λ ν.
-          -- [the lifetime's token; marks; codes]
-          move ! (1 ∷ []) $ use1 W (later (some (λ (δ : GName). ‵ (Marks-there ν δ) ⊛ ‵ (Marks-away ν δ))))
-          (lends u8 (named 2) κ₂ q₂ marks 𝓤 H A W (ν ∷ []) (h .in-marks) (long .marks-long)) $
-          await ! tt $ pick ! (λ δ₂. split ! $
-          move ! (3 ∷ []) $ use1 W (later (some (λ (δ : GName). ‵ (Codes-there ν δ) ⊛ ‵ (Codes-away ν δ))))
-          (lends u8 (named 3) κ₃ q₃ codes 𝓤 H A W (ν ∷ []) (h .in-codes) (long .codes-long)) $
-          await ! tt $ pick ! (λ δ₃. split ! $ at-once ! $
-          show ! (λ (d : Names). mean 𝓤 H A (Two-lent d)) (record { lifetime = ν; of-marks = δ₂; of-codes = δ₃ }) $
-          -- [codes, lent; what stays of them; marks, lent; what stays of them; the token]
-          move ! (3 ∷ 1 ∷ []) $ fjoin ! $ nothing ! $ move ! (2 ∷ 0 ∷ []) $ fjoin ! $ move ! (2 ∷ 0 ∷ []) $ fjoin ! $
-          -- [both, lent; what stays; the token]
-          join ! $ move ! (1 ∷ 0 ∷ []) $ join ! $ done !)))
+        lends-two : ent 𝓤 (mean 𝓤 H A (Two 𝓤 h)) (H .⇛ (ex 𝓤 (λ (d : Names). mean 𝓤 H A (Two-lent d))))
+        lends-two =
+            qed W (Two 𝓤 h ∷ []) ∵ updating ! $ split ! $ lft-new ! tt (λ ν.
+            -- [the lifetime's token; marks; codes]
+            move ! (1 ∷ []) $ use1 W (later (some (λ (δ : GName). ‵ (Marks-there ν δ) ⊛ ‵ (Marks-away ν δ))))
+            (lends u8 (named 2) κ₂ q₂ marks 𝓤 H A W (ν ∷ []) (h .in-marks) (long .marks-long)) $
+            await ! tt $ pick ! (λ δ₂. split ! $
+            move ! (3 ∷ []) $ use1 W (later (some (λ (δ : GName). ‵ (Codes-there ν δ) ⊛ ‵ (Codes-away ν δ))))
+            (lends u8 (named 3) κ₃ q₃ codes 𝓤 H A W (ν ∷ []) (h .in-codes) (long .codes-long)) $
+            await ! tt $ pick ! (λ δ₃. split ! $ at-once ! $
+            show ! (λ (d : Names). mean 𝓤 H A (Two-lent d)) (record { lifetime = ν; of-marks = δ₂; of-codes = δ₃ }) $
+            -- [codes, lent; what stays of them; marks, lent; what stays of them; the token]
+            move ! (3 ∷ 1 ∷ []) $ fjoin ! $ nothing ! $ move ! (2 ∷ 0 ∷ []) $ fjoin ! $ move ! (2 ∷ 0 ∷ []) $ fjoin ! $
+            -- [both, lent; what stays; the token]
+            join ! $ move ! (1 ∷ 0 ∷ []) $ join ! $ done !)))
 
-      -- the lifetime is ended, and known to be
-      returns-two
-          : (d : Names) (z : Bytes) → Room u8 (length (marks .now)) → Room u8 (length (codes .now)) →
-          ent 𝓤 (sep 𝓤 (A .lft (d .lifetime ∷ []) fullShare) (sep 𝓤 (sem 𝓤 H A (Two-away d)) (sem 𝓤 H A (Two-left d z))))
-          (H .⇛ (sep 𝓤 (A .dead (d .lifetime ∷ [])) (mean 𝓤 H A (Two 𝓤 z))))
-      returns-two d z room₂ room₃ =
-          qed W (‵ (flft (d .lifetime ∷ []) fullShare) ∷ ‵ (Two-away d) ∷ ‵ (Two-left d z) ∷ []) ∵ updating ! $ lft-end ! tt $
-          dead-too ! $ dead-too ! $
-          move ! (3 ∷ []) $ fsplit ! $ move ! (5 ∷ []) $ fsplit ! $ move ! (1 ∷ []) $ fsplit ! $
-          -- [codes' last value; nothing; marks'; what stays of marks; of codes; dead; dead; dead]
-          move ! (5 ∷ 3 ∷ 2 ∷ []) $ use3 W (later (‵ (Marks (z .in-marks)) ⊛ ‵ (flft κ₂ q₂)))
-          (returns u8 (named 2) κ₂ q₂ marks 𝓤 H A W (d .lifetime ∷ []) (h .in-marks) (long .marks-long) (d .of-marks)
-          (z .in-marks) room₂) $ await ! tt $
-          move ! (4 ∷ 3 ∷ 1 ∷ []) $ use3 W (later (‵ (Codes (z .in-codes)) ⊛ ‵ (flft κ₃ q₃)))
-          (returns u8 (named 3) κ₃ q₃ codes 𝓤 H A W (d .lifetime ∷ []) (h .in-codes) (long .codes-long) (d .of-codes)
-          (z .in-codes) room₃) $ await ! tt $
-          -- [codes; marks; nothing; dead]
-          keep ! (3 ∷ 1 ∷ 0 ∷ []) $ at-once ! $ done !
+        -- the lifetime is ended, and known to be
+        returns-two
+            : (d : Names) (z : Bytes) → Room u8 (length (marks .now)) → Room u8 (length (codes .now)) →
+            ent 𝓤 (sep 𝓤 (A .lft (d .lifetime
+            ∷ []) fullShare) (sep 𝓤 (sem 𝓤 H A (Two-away d)) (sem 𝓤 H A (Two-left d z))))
+            (H .⇛ (sep 𝓤 (A .dead (d .lifetime ∷ [])) (mean 𝓤 H A (Two 𝓤 z))))
+        returns-two d z room₂ room₃ =
+            qed W (‵ (flft (d .lifetime ∷ []) fullShare) ∷ ‵ (Two-away d) ∷ ‵ (Two-left d z) ∷ []) ∵ updating ! $
+            lft-end ! tt $
+            dead-too ! $ dead-too ! $
+            move ! (3 ∷ []) $ fsplit ! $ move ! (5 ∷ []) $ fsplit ! $ move ! (1 ∷ []) $ fsplit ! $
+            -- [codes' last value; nothing; marks'; what stays of marks; of codes; dead; dead; dead]
+            move ! (5 ∷ 3 ∷ 2 ∷ []) $ use3 W (later (‵ (Marks (z .in-marks)) ⊛ ‵ (flft κ₂ q₂)))
+            (returns u8 (named 2) κ₂ q₂ marks 𝓤 H A W (d .lifetime ∷ []) (h .in-marks) (long .marks-long) (d .of-marks)
+            (z .in-marks) room₂) $ await ! tt $
+            move ! (4 ∷ 3 ∷ 1 ∷ []) $ use3 W (later (‵ (Codes (z .in-codes)) ⊛ ‵ (flft κ₃ q₃)))
+            (returns u8 (named 3) κ₃ q₃ codes 𝓤 H A W (d .lifetime ∷ []) (h .in-codes) (long .codes-long) (d .of-codes)
+            (z .in-codes) room₃) $ await ! tt $
+            -- [codes; marks; nothing; dead]
+            keep ! (3 ∷ 1 ∷ 0 ∷ []) $ at-once ! $ done !
 
 -- ---- `ready`, which is handed the two as they were passed
 module _ (marks codes : RefT (List ℕ)) where
@@ -323,7 +334,8 @@ module _ (marks codes : RefT (List ℕ)) where
 
         pub tells-ready
             : (d : Names) (w : Val) → Room u8 (length (marks .now)) → Room u8 (length (codes .now)) →
-            ent 𝓤 (sep 𝓤 (Ready 𝓤 H A mem run .post (to-ready d) w) (sem 𝓤 H A (Kept-ready d))) (H .⇛ (ex 𝓤 (Returned-ready w)))
+            ent 𝓤 (sep 𝓤 (Ready 𝓤 H A mem run .post (to-ready d) w) (sem 𝓤 H A (Kept-ready d)))
+            (H .⇛ (ex 𝓤 (Returned-ready w)))
         tells-ready d w room₂ room₃ =
             qed W (later (some (λ (k : ℕ).
             ((‵ (flft (d .lifetime ∷ []) fullShare) ⊛ ‵ ftrue) ⊛ ‵ (usize .own k (w ∷ []))) ⊛ raw (Said-ready d k)))
@@ -394,7 +406,8 @@ module _ (κ₁ κ₂ κ₃ : Lft) (q₁ q₂ q₃ : Share) (numbers marks codes
 
     abbrev pub Kept-step : AllNames → Fml
     Kept-step d =
-        fsep (Numbers-away (d .others .lifetime) (d .of-numbers)) (Two-away κ₂ κ₃ q₂ q₃ marks codes (h .bytes) (d .others))
+        fsep (Numbers-away (d .others .lifetime) (d .of-numbers))
+        (Two-away κ₂ κ₃ q₂ q₃ marks codes (h .bytes) (d .others))
 
     abbrev Args : Type 0
     Args = OperationRecord × (ℕ × (RefT (List ℕ) × (RefT (List ℕ) × (RefT (List ℕ) × Unit {0}))))
@@ -435,12 +448,14 @@ module _ (κ₁ κ₂ κ₃ : Lft) (q₁ q₂ q₃ : Share) (numbers marks codes
         asks-step x-is i-fits inside =
             qed W (Lists 𝓤 h ∷ []) ∵ updating ! $ split ! $ move ! (1 ∷ []) $
             use1 W (later (some (Two-lent κ₂ κ₃ q₂ q₃ marks codes (h .bytes) 𝓤 H A W (long .bytes-long))))
-            (lends-two κ₂ κ₃ q₂ q₃ marks codes (h .bytes) 𝓤 H A W (long .bytes-long)) $ await ! tt $ pick ! (λ d. split3 ! $
+            (lends-two κ₂ κ₃ q₂ q₃ marks codes (h .bytes) 𝓤 H A W (long .bytes-long)) $ await ! tt $
+            pick ! (λ d. split3 ! $
             -- [the token; the two, lent; what stays of them; numbers]
             move ! (3 ∷ []) $
             use1 W (later (some (λ (δ : GName). ‵ (Numbers-there (d .lifetime) δ) ⊛ ‵ (Numbers-away (d .lifetime) δ))))
             (lends u64 (named 1) κ₁ q₁ numbers 𝓤 H A W (d .lifetime ∷ []) (h .in-numbers) (long .numbers-long)) $
-            await ! tt $ pick ! (λ δ₁. split ! $ at-once ! $ show ! Handed-step (record { of-numbers = δ₁; others = d }) $
+            await ! tt $ pick ! (λ δ₁. split ! $ at-once ! $
+            show ! Handed-step (record { of-numbers = δ₁; others = d }) $
             -- [numbers, lent; what stays of them; the token; the two, lent; what stays of them]
             move ! (0 ∷ 3 ∷ []) $ fjoin ! $
             owned ! usize (Is usize) (uint-makes 𝓤 H A W w64) i _ (refl, i-fits) $ fjoin ! $
@@ -451,14 +466,19 @@ module _ (κ₁ κ₂ κ₃ : Lft) (q₁ q₂ q₃ : Share) (numbers marks codes
             (factI 𝓤 _ (emp 𝓤) (still (long .bytes-long .codes-long) (inside .2))) $
             use0 W (raw (fact 𝓤 (i < length (h .bytes .in-marks))))
             (factI 𝓤 _ (emp 𝓤) (still (long .bytes-long .marks-long) (inside .1))) $ join ! $
-            use0 W (raw (fact 𝓤 (i < length (h .in-numbers)))) (factI 𝓤 _ (emp 𝓤) (still (long .numbers-long) (inside .0))) $
+            use0 W (raw (fact 𝓤 (i < length (h .in-numbers))))
+            (factI 𝓤 _ (emp 𝓤) (still (long .numbers-long) (inside .0))) $
             join ! $ move ! (1 ∷ 0 ∷ []) $ join ! $ done !))
           where
             still : {m n : ℕ} → m ≡ n → i < n → i < m
             still e l = subst (λ (k : ℕ). i < k) (sym e) l
 
         abbrev Said-step : AllNames → Unit {0} → SProp 𝓤
-        Said-step d r = ensured 𝓤 H A step.ended (step.clauses 𝓤 H A mem run) (d .others .lifetime ∷ [], tt) (args d) tt r
+        Said-step d r = ensured 𝓤 H A step.ended (step.clauses 𝓤 H A mem run) (
+          d .others .lifetime
+              ∷ [],
+          tt,
+        ) (args d) tt r
 
         abbrev Last-step : Type 0
         Last-step = Unit {0} × (Unit {0} × (List ℕ × (List ℕ × (List ℕ × Unit {0}))))
@@ -469,10 +489,12 @@ module _ (κ₁ κ₂ κ₃ : Lft) (q₁ q₂ q₃ : Share) (numbers marks codes
         pub tells-step
             : (d : AllNames) (w : Val) → Room u64 (length (numbers .now)) → Room u8 (length (marks .now)) →
             Room u8 (length (codes .now)) →
-            ent 𝓤 (sep 𝓤 (Step 𝓤 H A mem run .post (to-step d) w) (sem 𝓤 H A (Kept-step d))) (H .⇛ (ex 𝓤 (Returned-step w)))
+            ent 𝓤 (sep 𝓤 (Step 𝓤 H A mem run .post (to-step d) w) (sem 𝓤 H A (Kept-step d)))
+            (H .⇛ (ex 𝓤 (Returned-step w)))
         tells-step d w room₁ room₂ room₃ =
             qed W (later (some (λ (r : Unit {0}).
-            ((‵ (flft (d .others .lifetime ∷ []) fullShare) ⊛ ‵ ftrue) ⊛ ‵ (unit .own r (w ∷ []))) ⊛ raw (Said-step d r)))
+            ((‵ (flft (d .others .lifetime ∷ []) fullShare) ⊛ ‵ ftrue) ⊛ ‵ (unit .own r (w
+            ∷ []))) ⊛ raw (Said-step d r)))
             ∷ ‵ (Kept-step d) ∷ []) ∵ updating ! $ await ! tt $ pick ! (λ r. split ! $ split ! $ split ! $
             -- [the token; nothing; what the result owns; what is ensured; what stays]
             move ! (2 ∷ []) $ facts ! unit (Is unit) (shows 𝓤 H A unit) r (w ∷ []) (λ is. move ! (2 ∷ []) $
@@ -489,14 +511,16 @@ module _ (κ₁ κ₂ κ₃ : Lft) (q₁ q₂ q₃ : Share) (numbers marks codes
             -- [what stays of numbers; of the two; numbers' last value; the two's; the token; nothing]
             move ! (4 ∷ 1 ∷ 3 ∷ []) $
             use3 W (later (‵ (fdead (d .others .lifetime ∷ [])) ⊛ Two κ₂ κ₃ q₂ q₃ marks codes 𝓤 (at zs .bytes)))
-            (returns-two κ₂ κ₃ q₂ q₃ marks codes (h .bytes) 𝓤 H A W (long .bytes-long) (d .others) (at zs .bytes) room₂ room₃) $
+            (returns-two κ₂ κ₃ q₂ q₃ marks codes (h .bytes) 𝓤 H A W (long .bytes-long) (d .others) (at zs .bytes) room₂
+            room₃) $
             await ! tt $ split ! $
             -- [dead; the two; what stays of numbers; their last value; nothing]
             move ! (0 ∷ 2 ∷ 3 ∷ []) $ use3 W (later (‵ (Numbers (at zs .in-numbers)) ⊛ ‵ (flft κ₁ q₁)))
             (returns u64 (named 1) κ₁ q₁ numbers 𝓤 H A W (d .others .lifetime ∷ []) (h .in-numbers) (long .numbers-long)
             (d .of-numbers) (at zs .in-numbers) room₁) $ await ! tt $
             -- [numbers; the two; nothing]
-            join ! $ keep ! (0 ∷ []) $ at-once ! $ show ! (Returned-step w) (at zs) $ check ! (ap only is, e₁, e₂, e₃) $ done !))))))
+            join ! $ keep ! (0 ∷ []) $ at-once ! $ show ! (Returned-step w) (at zs) $
+            check ! (ap only is, e₁, e₂, e₃) $ done !))))))
           where
             at : Last-step → Held
             at zs = record {
