@@ -1,6 +1,6 @@
 -- What an operation of a row comes to, by its kind.
 -- Assumes nothing.
-use mathlib.Core.Logic.{_⊎_, inl, inr}
+use mathlib.Core.Logic.{_↔_, _⊎_, inl, inr}
 use mathlib.Core.Path.{_≡_, refl, ap, sym, _∙_}
 use Prim.Native.Nat.{ℕ, _≤_, _<_}
 use native.Mathlib.Decide.{decLt, ℕ-discrete}
@@ -21,6 +21,11 @@ module _ (k l r : ℕ) where
   pub element-as : {p : Paper} (kind : Kind) → kindOf k ≡ kind → p ≡ answerAs kind l r → p ≡ elementOf k l r
   unfolding elementOf
   element-as kind e a = a ∙ ap (λ q. answerAs q l r) (sym e)
+
+  -- kind n is this operation's, and p its answer
+  pub element-at
+      : {p : Paper} (n : ℕ) (o : Operation) → k ≡ n → kindOf n ≡ operation o → p ≡ answerOf o l r → p ≡ elementOf k l r
+  element-at n o e f a = element-as (operation o) (ap kindOf e ∙ f) a
 
   -- 0 is a literal's, and there is no kind from 7 on
   pub other-kind : (k ≡ 0) ⊎ (6 < k) → elementOf k l r ≡ refused 8
@@ -51,6 +56,22 @@ module _ (k l r : ℕ) where
                   known o e (sym (element-as (operation o) e refl))
             ]
       ]
+
+  -- a code below 8 is the single operation's: where each operation gives it exactly when P holds, so does the element
+  pub code-exactly
+      : (c : ℕ) (P : Operation → Type 0) → c < 8 → ((o : Operation) → (answerOf o l r .code ≡ c) ↔ P o) →
+      (elementOf k l r .code ≡ c) ↔ ((o : Operation) × ((kindOf k ≡ operation o) × P o))
+  code-exactly c P low single = (only, back)
+    where
+      only : elementOf k l r .code ≡ c → (o : Operation) × ((kindOf k ≡ operation o) × P o)
+      only h =
+          elim which [
+            | known o e a ↦ (o, (e, single o .0 (sym (ap (λ p. p .code) a) ∙ h)))
+            | other g a ↦ let d = ap (λ p. p .code) a in let f : ⊥ = omega arith in absurd f
+          ]
+
+      back : (o : Operation) × ((kindOf k ≡ operation o) × P o) → elementOf k l r .code ≡ c
+      back (o, (e, h)) = sym (ap (λ p. p .code) (element-as (operation o) e refl)) ∙ single o .1 h
 
   pub code-below-9 : elementOf k l r .code < 9
   code-below-9 =

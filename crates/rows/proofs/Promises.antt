@@ -4,7 +4,7 @@
 -- Assumes nothing.
 use mathlib.Core.Path.{_≡_, refl, ap, sym, _∙_}
 use mathlib.Core.Logic.{_↔_, _⊎_, inl, inr}
-use mathlib.Core.List.{List, [], _∷_, map}
+use mathlib.Core.List.{List, map}
 use Prim.Native.Nat.{ℕ, _≤_, _<_}
 use native.Mathlib.Omega.{arith}
 use lib.ListN.{length, getD, length-map}
@@ -22,9 +22,9 @@ use Rattle.razovinto.proofs.Operations.{by-zero, below-two, valued, stage, fitt
 use Rattle.razovinto.proofs.Slices.{roomy-returns}
 use Rattle.razovinto.proofs.Promises as single
 use Rattle.rows.specs.declared.types.OperationRecord.{OperationRecord}
-use Rattle.rows.specs.Rows.{Operations, lists, fields, elementOf, elementAt, codeFor}
+use Rattle.rows.specs.Rows.{Operations, lists, alone, fields, elementOf, elementAt, codeFor}
 use Rattle.rows.specs.Rows.{numbersAfter, marksAfter, codesAfter, Even, Counted, Short, Roomy, Rows}
-use Rattle.rows.proofs.Elements.{known, other, which, element-as, other-kind}
+use Rattle.rows.proofs.Elements.{known, other, which, element-as, other-kind, code-exactly}
 use Rattle.rows.proofs.Lengths.{six, seven, nineteen, naught, only-these}
 use Rattle.rows.proofs.After.{written, stays, written-at, past-at, as-long}
 -- one answer and one content of each list
@@ -55,32 +55,12 @@ module _ (k l r : ℕ) where
   -- 1 exactly for a quotient or a remainder by 0
   pub element-1-exactly
       : (elementOf k l r .code ≡ 1) ↔ ((o : Operation) × ((kindOf k ≡ operation o) × ByZero o r))
-  element-1-exactly = (only, back)
-    where
-      only : elementOf k l r .code ≡ 1 → (o : Operation) × ((kindOf k ≡ operation o) × ByZero o r)
-      only c =
-          elim (which k l r) [
-            | known o e a ↦ (o, (e, code-1-exactly o l r .0 (sym (ap (λ p. p .code) a) ∙ c)))
-            | other h a ↦ let d = ap (λ p. p .code) a in let f : ⊥ = omega arith in absurd f
-          ]
-
-      back : (o : Operation) × ((kindOf k ≡ operation o) × ByZero o r) → elementOf k l r .code ≡ 1
-      back (o, (e, z)) = ap (λ p. p .code) (element-is-operation o e) ∙ code-1-exactly o l r .1 z
+  element-1-exactly = code-exactly k l r 1 (λ o. ByZero o r) (omega arith) (λ o. code-1-exactly o l r)
 
   -- 2 exactly for a logarithm in a base below 2
   pub element-2-exactly
       : (elementOf k l r .code ≡ 2) ↔ ((o : Operation) × ((kindOf k ≡ operation o) × SmallBase o l))
-  element-2-exactly = (only, back)
-    where
-      only : elementOf k l r .code ≡ 2 → (o : Operation) × ((kindOf k ≡ operation o) × SmallBase o l)
-      only c =
-          elim (which k l r) [
-            | known o e a ↦ (o, (e, code-2-exactly o l r .0 (sym (ap (λ p. p .code) a) ∙ c)))
-            | other h a ↦ let d = ap (λ p. p .code) a in let f : ⊥ = omega arith in absurd f
-          ]
-
-      back : (o : Operation) × ((kindOf k ≡ operation o) × SmallBase o l) → elementOf k l r .code ≡ 2
-      back (o, (e, b)) = ap (λ p. p .code) (element-is-operation o e) ∙ code-2-exactly o l r .1 b
+  element-2-exactly = code-exactly k l r 2 (λ o. SmallBase o l) (omega arith) (λ o. code-2-exactly o l r)
 
   -- a refused one has the number 0 and the mark 0
   pub element-refused : (elementOf k l r .code ≡ 0 → ⊥) → (elementOf k l r .number ≡ 0) × (elementOf k l r .mark ≡ 0)
@@ -222,14 +202,10 @@ module _ (records : List OperationRecord) (numbers marks codes : List ℕ) where
 
 -- ---- a row of one operation, beside the entry for that operation alone
 
--- three lists with a place each
-abbrev Some : (numbers marks codes : List ℕ) → Type 0
-Some numbers marks codes = (1 ≤ length numbers) × (1 ≤ length marks) × (1 ≤ length codes)
-
 module _ (k l r : ℕ) (o : Operation) (e : kindOf k ≡ operation o) (numbers marks codes result : List ℕ) where
-  module _ (some : Some numbers marks codes) (room : 16 ≤ length result) where
+  module _ (some : Roomy (alone k l r) numbers marks codes) (room : 16 ≤ length result) where
     abbrev one : Operations
-    one = lists (k ∷ []) (l ∷ []) (r ∷ [])
+    one = alone k l r
 
     abbrev single-answer : Paper
     single-answer = answerOf o l r

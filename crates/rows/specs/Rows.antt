@@ -4,7 +4,7 @@
 use mathlib.Core.Path.{_≡_}
 use mathlib.Core.Logic.{_⊎_}
 use mathlib.Core.Bool.{Bool, cond, _&&_}
-use mathlib.Core.List.{List, map}
+use mathlib.Core.List.{List, [], _∷_, map}
 use Prim.Native.Nat.{ℕ, _≤_, _<_}
 use lib.Dec.{eqb, leb}
 use lib.ListN.{length, getD}
@@ -34,6 +34,10 @@ pub record Operations : Type 0 where
 
 abbrev pub lists : List ℕ → List ℕ → List ℕ → Operations
 lists kinds lefts rights = record { kinds = kinds; lefts = lefts; rights = rights }
+
+-- a row of one operation
+abbrev pub alone : (kind l r : ℕ) → Operations
+alone kind l r = lists (kind ∷ []) (l ∷ []) (r ∷ [])
 
 -- the lists of the fields of a list of records
 abbrev pub fields : List OperationRecord → Operations

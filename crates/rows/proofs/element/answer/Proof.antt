@@ -1,10 +1,14 @@
 -- `element::answer` meets its contract.
 -- Assumes nothing.
-use mathlib.Core.Path.{_≡_, ap, sym, _∙_}
-use Rattle.checked.specs.Paper.{given}
-use Rattle.shape.specs.Items.{kindOf, operation, product, quotient, remainder, power, logarithm}
+use mathlib.Core.Path.{_≡_, ap, sym}
+use Prim.Native.Nat.{ℕ}
+use Rattle.checked.specs.Paper.{Paper, given}
+use Rattle.shape.specs.Items.{Operation, kindOf, operation, product, quotient, remainder, power, logarithm}
 use Rattle.shape.proofs.Codes.{kind-at}
-use Rattle.rows.proofs.Elements.{element-as, no-operation}
+use Rattle.razovinto.specs.Six.{answerOf}
+use Rattle.rows.specs.declared.types.OperationRecord.{OperationRecord}
+use Rattle.rows.specs.Rows.{elementOf}
+use Rattle.rows.proofs.Elements.{element-at, no-operation}
 use borrow.Author.Needs.{needs}
 use Rattle.rows.proofs.element.answer.Statement.{statement}
 use Rattle.rows.proofs.element.answer.Tie as tie
@@ -30,34 +34,35 @@ checked-pow-requires c κs = search needs
 checked-log-requires : tie.Need-checked-log-requires
 checked-log-requires c κs = search needs
 
+-- an arm of the match, of one operation's kind
+arm
+    : {p : Paper} (x : OperationRecord) (n : ℕ) (o : Operation) → x .kind ≡ n → kindOf n ≡ operation o →
+    p ≡ answerOf o (x .left) (x .right) → p ≡ elementOf (x .kind) (x .left) (x .right)
+arm x = element-at (x .kind) (x .left) (x .right)
+
 returns-2 : tie.Need-returns-2
 returns-2 c =
-    let o = c .before .before .before .args .operation in
-    element-as (o .kind) (o .left) (o .right) (operation product) (ap kindOf (c .before .match .keys1) ∙ kind-at 2)
+    arm (c .before .before .before .args .operation) 2 product (c .before .match .keys1) (kind-at 2)
     (ap given (c .checked-mul .ensures))
 
 returns-3 : tie.Need-returns-3
 returns-3 c =
-    let o = c .before .before .before .args .operation in
-    element-as (o .kind) (o .left) (o .right) (operation quotient) (ap kindOf (c .before .match .keys2) ∙ kind-at 3)
+    arm (c .before .before .before .args .operation) 3 quotient (c .before .match .keys2) (kind-at 3)
     (c .checked-div .ensures)
 
 returns-4 : tie.Need-returns-4
 returns-4 c =
-    let o = c .before .before .before .args .operation in
-    element-as (o .kind) (o .left) (o .right) (operation remainder) (ap kindOf (c .before .match .keys3) ∙ kind-at 4)
+    arm (c .before .before .before .args .operation) 4 remainder (c .before .match .keys3) (kind-at 4)
     (c .checked-rem .ensures)
 
 returns-5 : tie.Need-returns-5
 returns-5 c =
-    let o = c .before .before .before .args .operation in
-    element-as (o .kind) (o .left) (o .right) (operation power) (ap kindOf (c .before .match .keys4) ∙ kind-at 5)
+    arm (c .before .before .before .args .operation) 5 power (c .before .match .keys4) (kind-at 5)
     (ap given (c .checked-pow .ensures))
 
 returns-6 : tie.Need-returns-6
 returns-6 c =
-    let o = c .before .before .before .args .operation in
-    element-as (o .kind) (o .left) (o .right) (operation logarithm) (ap kindOf (c .before .match .keys5) ∙ kind-at 6)
+    arm (c .before .before .before .args .operation) 6 logarithm (c .before .match .keys5) (kind-at 6)
     (c .checked-log .ensures)
 
 returns-7 : tie.Need-returns-7

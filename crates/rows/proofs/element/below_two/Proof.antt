@@ -1,12 +1,12 @@
 -- `element::below_two` meets its contract.
 -- Assumes nothing.
-use mathlib.Core.Path.{_≡_, ap, sym, _∙_}
+use mathlib.Core.Path.{_≡_, ap, sym}
 use mathlib.Core.Logic.{inl}
 use native.Mathlib.Omega.{arith}
 use Rattle.checked.specs.Paper.{given}
-use Rattle.shape.specs.Items.{kindOf, operation, sum}
+use Rattle.shape.specs.Items.{sum}
 use Rattle.shape.proofs.Codes.{kind-at}
-use Rattle.rows.proofs.Elements.{element-as, other-kind}
+use Rattle.rows.proofs.Elements.{element-at, other-kind}
 use borrow.Author.Needs.{needs}
 use Rattle.rows.proofs.element.below_two.Statement.{statement}
 use Rattle.rows.proofs.element.below_two.Tie as tie
@@ -22,8 +22,7 @@ returns-2 : tie.Need-returns-2
 returns-2 c =
     let g = c .before .before .args in
     let one : g .kind ≡ 1 = omega arith in
-    element-as (g .kind) (g .left) (g .right) (operation sum) (ap kindOf one ∙ kind-at 1)
-    (ap given (c .checked-add .ensures))
+    element-at (g .kind) (g .left) (g .right) 1 sum one (kind-at 1) (ap given (c .checked-add .ensures))
 
 pub below-two-spec : {M : Type 1} → statement M
 below-two-spec = tie.close (tie.spec returns checked-add-requires returns-2)

@@ -444,8 +444,7 @@ module _ (operations : RefT (List OperationRecord)) (numbers marks codes : RefT 
             elem-out ! T.the-row (Is T.the-row) (shows 𝓤 H A T.the-row) vals (LL.tells T.the-type T′.the-laws) q′
             ops (t .at) no-record b o there (λ g.
             -- [the record; what it owns; the others; the open borrow; the borrow; its value; the three lists; _0; …],
-            -- so local k
-            -- stands at 7 + k
+            -- so local k stands at 7 + k
             assigns ! (of-opd ! (load ! (from ! (hop ! (look ! 26 refl) (stop !))) (look-raw ! 0 refl)))
             (from ! (stop !)) (init ! 27 refl (typed g)) $
             elem-back ! T.the-row q′ ops (t .at) no-record (vals x) b o there $
@@ -563,8 +562,8 @@ module _ (operations : RefT (List OperationRecord)) (numbers marks codes : RefT 
           keep ! (4 ∷ 1 ∷ 0 ∷ 2 ∷ 58 ∷ 56 ∷ 54 ∷ 52 ∷ 50 ∷ 48 ∷ 46 ∷ 44 ∷ 42 ∷ 40 ∷ 38 ∷ 36 ∷ 34 ∷ 32 ∷ 30 ∷ 28 ∷ 26
           ∷ 24 ∷ 22 ∷ 20 ∷ 18 ∷ 16 ∷ 14 ∷ 12 ∷ 10 ∷ 8 ∷ 6 ∷ 59 ∷ 57 ∷ 55 ∷ 53 ∷ 51 ∷ 49 ∷ 47 ∷ 45 ∷ 43 ∷ 41 ∷ 39 ∷ 37
           ∷ 35 ∷ 33 ∷ 31 ∷ 29 ∷ 27 ∷ 25 ∷ 23 ∷ 21 ∷ 19 ∷ 17 ∷ 15 ∷ 13 ∷ 11 ∷ 9 ∷ 7 ∷ []) $
-          -- [the token; the borrow; its value; the three lists; _0; …; _26; what frees them], so local k stands at 4 +
-          -- k
+          -- [the token; the borrow; its value; the three lists; _0; …; _26; what frees them], so local k stands at
+          -- 4 + k
           assigns ! (of-opd ! (load ! (from ! (fld ! refl (stop !))) (look-in ! 5 (sub ! 1 refl (whole !)))))
           (from ! (stop !)) (init ! 12 refl (tt, record { fits = room .0 })) $
           assigns ! (of-opd ! (load ! (from ! (fld ! refl (stop !))) (look-in ! 6 (sub ! 1 refl (whole !)))))
