@@ -2,14 +2,14 @@
 use checked::refusal::Refusal;
 
 // Sound, or why not.
-#[derive(Drop)]
+#[derive(Clone, Copy)]
 pub enum Sound {
     Sound,
     Refused(Refusal),
 }
 
 // The block's number and how many values it has; or why it can't be read.
-#[derive(Drop)]
+#[derive(Clone, Copy)]
 pub enum Read {
     Values { number: u32, count: usize },
     Refused(Refusal),

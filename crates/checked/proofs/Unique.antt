@@ -21,7 +21,7 @@ use Rattle.checked.specs.declared.types.Both.{Both}
 use Rattle.checked.specs.declared.types.Both.TheVariants as both
 use Rattle.checked.specs.Value.{Value, option, both_of}
 use Rattle.checked.specs.Paper.{paper, plain, number_of, value_in}
-use Rattle.checked.specs.Pair.{Pair, pair, pair_of}
+use Rattle.checked.specs.Pair.{pair, pair_of}
 use Rattle.checked.proofs.Refused.{pair-of-both}
 
 -- what has a way back is determined by where it goes

@@ -2,7 +2,7 @@
 use checked::refusal::Refusal;
 
 // A field's range with its packing width; or why there is none, and where.
-#[derive(Drop)]
+#[derive(Clone, Copy)]
 pub enum Scan {
     Ranged {
         least: u64,

@@ -1,4 +1,6 @@
 // Whether a power fits 64 bits, from a table and without working the power out.
+#![tactic(auto)]
+
 ghost use Rattle.std.specs.Prelude.{◌≡◌, ◌<◌};
 ghost use Rattle.fit.specs.Fit.{power_fits, largest_bases};
 

@@ -64,42 +64,42 @@ module _ (s : Scanned) (extent : List Float) where
   extent-stays n =
       ap (λ t. cond t (put 0 (s.least ∷ s.greatest ∷ []) (bits_in extent)) (bits_in extent)) (ne_eqb s.code 0 n)
 
-module _ (level : List Float) (ground : List ℕ) (extent : List Float) (lent : List ℕ) where
+module _ (level : List Float) (grounds : List ℕ) (extent : List Float) (lent : List ℕ) where
   abbrev scan-told : Told
-  scan-told = of_level_scan (scan_for extent (scan_of level ground))
+  scan-told = of_level_scan (scan_for extent (scan_of level grounds))
 
   abbrev Gives : ℕ → List ℕ → List ℕ → Type 0
   Gives r now after =
       (r ≡ answer_code scan-told lent)
-      × ((now ≡ answer_list scan-told lent) × (after ≡ extent_beside level ground extent lent))
+      × ((now ≡ answer_list scan-told lent) × (after ≡ extent_beside level grounds extent lent))
 
   pub scan-short-gives : {r : ℕ} → length lent < 1 → r ≡ 19 → Gives r lent (bits_in extent)
   scan-short-gives h e =
       let s = short-gives scan-told lent h e in
-      let b = short-beside scan-told lent (extent_after (scan_for extent (scan_of level ground)) extent) (bits_in extent) h in
+      let b = short-beside scan-told lent (extent_after (scan_for extent (scan_of level grounds)) extent) (bits_in extent) h in
       (s.0, (s.1, sym b))
 
   -- where the answer has room
   module _ (room : 1 ≤ length lent) where
     -- what is answered is x, and the list of the least and the greatest is as x says
     roomy-scan-gives
-        : (x : Scanned) {r : ℕ} {now after : List ℕ} → x ≡ scan_for extent (scan_of level ground) → r ≡ x.code →
+        : (x : Scanned) {r : ℕ} {now after : List ℕ} → x ≡ scan_for extent (scan_of level grounds) → r ≡ x.code →
         now ≡ sets lent 0 (x.place ∷ []) → after ≡ extent_after x extent → Gives r now after
     roomy-scan-gives x is e s a =
         let g = roomy-gives (of_level_scan x) lent room e s in
-        let b = roomy-beside scan-told lent (extent_after (scan_for extent (scan_of level ground)) extent) (bits_in extent) room in (
+        let b = roomy-beside scan-told lent (extent_after (scan_for extent (scan_of level grounds)) extent) (bits_in extent) room in (
           g.0 ∙ ap (λ x. answer_code (of_level_scan x) lent) is,
           (g.1 ∙ ap (λ x. answer_list (of_level_scan x) lent) is, a ∙ ap (λ x. extent_after x extent) is ∙ sym b),
         )
 
     pub no-extent-gives : {r : ℕ} → length extent < 2 → r ≡ 19 → Gives r (set lent 0 0) (bits_in extent)
     no-extent-gives h e =
-        roomy-scan-gives (refused 19 0) (sym (no-room-for-extent (scan_of level ground) extent h)) e refl
+        roomy-scan-gives (refused 19 0) (sym (no-room-for-extent (scan_of level grounds) extent h)) e refl
         (sym (extent-stays (refused 19 0) extent (λ z. omega arith)))
 
-    module _ (wide : 2 ≤ length extent) {answer : LevelScan} (ensured : scanned answer ≡ scan_of level ground) where
-      scanned-is : {x : LevelScan} → answer ≡ x → scanned x ≡ scan_for extent (scan_of level ground)
-      scanned-is is = ap scanned (sym is) ∙ ensured ∙ sym (room-for-extent (scan_of level ground) extent wide)
+    module _ (wide : 2 ≤ length extent) {answer : LevelScan} (ensured : scanned answer ≡ scan_of level grounds) where
+      scanned-is : {x : LevelScan} → answer ≡ x → scanned x ≡ scan_for extent (scan_of level grounds)
+      scanned-is is = ap scanned (sym is) ∙ ensured ∙ sym (room-for-extent (scan_of level grounds) extent wide)
 
       pub ranged-gives
           : {found : Extent} → answer ≡ Ranged found →
@@ -117,30 +117,30 @@ module _ (level : List Float) (ground : List ℕ) (extent : List Float) (lent : 
 
 -- ---- a level turned into a field
 
-module _ (level : List Float) (ground numbers marks lent : List ℕ) where
+module _ (level : List Float) (grounds numbers marks lent : List ℕ) where
   abbrev turn-told : Told
-  turn-told = of_turning (turning_of level ground numbers marks)
+  turn-told = of_turning (turning_of level grounds numbers marks)
 
   abbrev Turns : ℕ → List ℕ → List ℕ → List ℕ → Type 0
   Turns r now ns ms =
       (r ≡ answer_code turn-told lent)
       × ((now ≡ answer_list turn-told lent)
-      × ((ns ≡ turned_beside level ground numbers marks lent) × (ms ≡ unmarked_beside level ground numbers marks lent)))
+      × ((ns ≡ turned_beside level grounds numbers marks lent) × (ms ≡ unmarked_beside level grounds numbers marks lent)))
 
   pub turn-short-gives : {r : ℕ} → length lent < 1 → r ≡ 19 → Turns r lent numbers marks
   turn-short-gives h e =
       let s = short-gives turn-told lent h e in
-      let n = short-beside turn-told lent (numbers_after level ground numbers marks) numbers h in
-      let m = short-beside turn-told lent (marks_after level ground numbers marks) marks h in
+      let n = short-beside turn-told lent (numbers_after level grounds numbers marks) numbers h in
+      let m = short-beside turn-told lent (marks_after level grounds numbers marks) marks h in
       (s.0, (s.1, (sym n, sym m)))
 
   -- in an arm of the `match` on the answer, which is x there
   pub turn-gives
       : {x answer : Turn} {r : ℕ} {now ns ms : List ℕ} → 1 ≤ length lent → r ≡ (turned x).code →
-      now ≡ sets lent 0 ((turned x).place ∷ []) → answer ≡ x → turned answer ≡ turning_of level ground numbers marks →
-      ns ≡ numbers_after level ground numbers marks → ms ≡ marks_after level ground numbers marks → Turns r now ns ms
+      now ≡ sets lent 0 ((turned x).place ∷ []) → answer ≡ x → turned answer ≡ turning_of level grounds numbers marks →
+      ns ≡ numbers_after level grounds numbers marks → ms ≡ marks_after level grounds numbers marks → Turns r now ns ms
   turn-gives {x} h e s is ensured filled unmarked =
       let g = arm turned of_turning lent {x = x} h e s is ensured in
-      let n = roomy-beside turn-told lent (numbers_after level ground numbers marks) numbers h in
-      let m = roomy-beside turn-told lent (marks_after level ground numbers marks) marks h in
+      let n = roomy-beside turn-told lent (numbers_after level grounds numbers marks) numbers h in
+      let m = roomy-beside turn-told lent (marks_after level grounds numbers marks) marks h in
       (g.0, (g.1, (filled ∙ sym n, unmarked ∙ sym m)))

@@ -30,9 +30,9 @@ place-lengths s t = (refl, refl)
 
 -- ---- the scan
 
-module _ (level : List Float) (ground : List ℕ) (extent : List Float) (lent : List ℕ) where
+module _ (level : List Float) (grounds : List ℕ) (extent : List Float) (lent : List ℕ) where
   abbrev answer : Scanned
-  answer = scan_for extent (scan_of level ground)
+  answer = scan_for extent (scan_of level grounds)
 
   abbrev told : Told
   told = of_level_scan answer
@@ -45,7 +45,7 @@ module _ (level : List Float) (ground : List ℕ) (extent : List Float) (lent : 
       both = answer-19-exactly told lent
 
       narrow : length extent < 2 → answer.code ≡ 19
-      narrow h = ap (λ s. s.code) (no-room-for-extent (scan_of level ground) extent h)
+      narrow h = ap (λ s. s.code) (no-room-for-extent (scan_of level grounds) extent h)
 
       only : answer_code told lent ≡ 19 → (length lent < 1) ⊎ (length extent < 2)
       only e =
@@ -54,48 +54,48 @@ module _ (level : List Float) (ground : List ℕ) (extent : List Float) (lent : 
           elim (dec_lt (length extent) 2) [
             | yes h ↦ inr h
             | no h ↦
-                let d = sym (ap (λ s. s.code) (room-for-extent (scan_of level ground) extent (omega arith))) ∙ c in
+                let d = sym (ap (λ s. s.code) (room-for-extent (scan_of level grounds) extent (omega arith))) ∙ c in
                 absurd
                 (⊎_elim (λ f. omega arith)
                 (⊎_elim (λ f. omega arith) (⊎_elim (λ f. omega arith) (⊎_elim (λ f. omega arith) (λ f. omega arith))))
-                (scan.only-codes level ground))
+                (scan.only-codes level grounds))
           ])
           (both.0 e)
 
   -- any other number is the scan's own
   pub level-scan-code-exactly
       : (c : ℕ) → (c ≡ 19 → ⊥) →
-      (answer_code told lent ≡ c) ↔ ((1 ≤ length lent) × (2 ≤ length extent) × ((scan_of level ground).code ≡ c))
+      (answer_code told lent ≡ c) ↔ ((1 ≤ length lent) × (2 ≤ length extent) × ((scan_of level grounds).code ≡ c))
   level-scan-code-exactly c other = (only, λ (h, k, e). exactly.1 (h, wide k ∙ e))
     where
       exactly : (answer_code told lent ≡ c) ↔ (Room told lent × (answer.code ≡ c))
       exactly = answer-code-exactly told lent c other
 
-      wide : 2 ≤ length extent → answer.code ≡ (scan_of level ground).code
-      wide k = ap (λ s. s.code) (room-for-extent (scan_of level ground) extent k)
+      wide : 2 ≤ length extent → answer.code ≡ (scan_of level grounds).code
+      wide k = ap (λ s. s.code) (room-for-extent (scan_of level grounds) extent k)
 
-      only : answer_code told lent ≡ c → (1 ≤ length lent) × (2 ≤ length extent) × ((scan_of level ground).code ≡ c)
+      only : answer_code told lent ≡ c → (1 ≤ length lent) × (2 ≤ length extent) × ((scan_of level grounds).code ≡ c)
       only e =
           let (h, f) = exactly.0 e in
           elim (dec_lt (length extent) 2) [
-            | yes k ↦ absurd (other (sym f ∙ ap (λ s. s.code) (no-room-for-extent (scan_of level ground) extent k)))
+            | yes k ↦ absurd (other (sym f ∙ ap (λ s. s.code) (no-room-for-extent (scan_of level grounds) extent k)))
             | no k ↦ let w : 2 ≤ length extent = omega arith in (h, w, sym (wide w) ∙ f)
           ]
 
   -- with 0 the list holds the least and the greatest, and later places stay
   pub level-scan-fills
       : answer_code told lent ≡ 0 →
-      extent_beside level ground extent lent
-      ≡ put 0 ((scan_of level ground).least ∷ (scan_of level ground).greatest ∷ []) (bits_in extent)
+      extent_beside level grounds extent lent
+      ≡ put 0 ((scan_of level grounds).least ∷ (scan_of level grounds).greatest ∷ []) (bits_in extent)
   level-scan-fills e =
       let (h, k, z) = (level-scan-code-exactly 0 (λ f. let g : ⊥ = omega arith in g)).0 e in
       roomy-beside told lent (extent_after answer extent) (bits_in extent) h
-      ∙ ap (λ s. extent_after s extent) (room-for-extent (scan_of level ground) extent k)
-      ∙ extent-given (scan_of level ground) extent z
+      ∙ ap (λ s. extent_after s extent) (room-for-extent (scan_of level grounds) extent k)
+      ∙ extent-given (scan_of level grounds) extent z
 
   -- with any refusal it stays
   pub level-scan-refused-stays
-      : (answer_code told lent ≡ 0 → ⊥) → extent_beside level ground extent lent ≡ bits_in extent
+      : (answer_code told lent ≡ 0 → ⊥) → extent_beside level grounds extent lent ≡ bits_in extent
   level-scan-refused-stays n =
       elim (dec_lt (length lent) 1) [
         | yes h ↦ short-beside told lent (extent_after answer extent) (bits_in extent) h
@@ -107,33 +107,33 @@ module _ (level : List Float) (ground : List ℕ) (extent : List Float) (lent : 
 
 -- ---- a level turned into a field
 
-module _ (level : List Float) (ground numbers marks lent : List ℕ) where
+module _ (level : List Float) (grounds numbers marks lent : List ℕ) where
   abbrev turning-told : Told
-  turning-told = of_turning (turning_of level ground numbers marks)
+  turning-told = of_turning (turning_of level grounds numbers marks)
 
   -- 19 exactly when there is no room for the place, or the level has readings and marks and one of the lists is shorter
   pub turn-19-exactly
       : (answer_code turning-told lent ≡ 19)
       ↔ ((length lent < 1)
-      ⊎ ((length level ≡ length ground) × (0 < length level)
+      ⊎ ((length level ≡ length grounds) × (0 < length level)
       × ((length numbers < length level) ⊎ (length marks < length level))))
   turn-19-exactly = (
     λ e. ⊎_elim inl (λ c. inr (own.0 (nineteen c))) (both.0 e),
     ⊎_elim (λ h. both.1 (inl h)) (λ p. both.1 (inr (ap (λ t. t.code) (own.1 p)))),
   )
     where
-      both : (answer_code turning-told lent ≡ 19) ↔ ((length lent < 1) ⊎ ((turning_of level ground numbers marks).code ≡ 19))
+      both : (answer_code turning-told lent ≡ 19) ↔ ((length lent < 1) ⊎ ((turning_of level grounds numbers marks).code ≡ 19))
       both = answer-19-exactly turning-told lent
 
       own
-          : (turning_of level ground numbers marks ≡ turning.refused 19 0)
-          ↔ ((length level ≡ length ground) × (0 < length level)
+          : (turning_of level grounds numbers marks ≡ turning.refused 19 0)
+          ↔ ((length level ≡ length grounds) × (0 < length level)
           × ((length numbers < length level) ⊎ (length marks < length level)))
-      own = turn.refused-19-exactly level ground numbers marks
+      own = turn.refused-19-exactly level grounds numbers marks
 
       nineteen
-          : (turning_of level ground numbers marks).code ≡ 19 →
-          turning_of level ground numbers marks ≡ turning.refused 19 0
+          : (turning_of level grounds numbers marks).code ≡ 19 →
+          turning_of level grounds numbers marks ≡ turning.refused 19 0
       nineteen c =
           ⊎_elim (λ s. absurd (clash turning.given s (λ e. omega arith)))
           (⊎_elim (λ s. absurd (clash (turning.refused 6 0) s (λ e. omega arith)))
@@ -144,33 +144,33 @@ module _ (level : List Float) (ground numbers marks lent : List ℕ) where
           (⊎_elim (λ s. clash (turning.refused 15 i) s (λ e. omega arith))
           (⊎_elim (λ s. clash (turning.refused 22 i) s (λ e. omega arith)) (λ s. clash (turning.refused 23 i) s (λ e. omega arith)))
           o)))))
-          (turn.only-answers level ground numbers marks)
+          (turn.only-answers level grounds numbers marks)
         where
-          clash : (t : Turning) → turning_of level ground numbers marks ≡ t → (t.code ≡ 19 → ⊥) → ⊥
+          clash : (t : Turning) → turning_of level grounds numbers marks ≡ t → (t.code ≡ 19 → ⊥) → ⊥
           clash t s n = n (sym (ap (λ t. t.code) s) ∙ c)
 
   -- with 0 the two lists hold the field, as `turn` promises
   pub turn-fills
       : answer_code turning-told lent ≡ 0 →
-      (turned_beside level ground numbers marks lent ≡ numbers_after level ground numbers marks)
-      × (unmarked_beside level ground numbers marks lent ≡ marks_after level ground numbers marks)
+      (turned_beside level grounds numbers marks lent ≡ numbers_after level grounds numbers marks)
+      × (unmarked_beside level grounds numbers marks lent ≡ marks_after level grounds numbers marks)
   turn-fills e =
       let r = ((answer-code-exactly turning-told lent 0 (λ z. let f : ⊥ = omega arith in f)).0 e).0 in (
-        roomy-beside turning-told lent (numbers_after level ground numbers marks) numbers r,
-        roomy-beside turning-told lent (marks_after level ground numbers marks) marks r,
+        roomy-beside turning-told lent (numbers_after level grounds numbers marks) numbers r,
+        roomy-beside turning-told lent (marks_after level grounds numbers marks) marks r,
       )
 
   -- with any refusal they stay
   pub turn-refused-stays
       : (answer_code turning-told lent ≡ 0 → ⊥) →
-      (turned_beside level ground numbers marks lent ≡ numbers) × (unmarked_beside level ground numbers marks lent ≡ marks)
+      (turned_beside level grounds numbers marks lent ≡ numbers) × (unmarked_beside level grounds numbers marks lent ≡ marks)
   turn-refused-stays n =
-      let ns = numbers_after level ground numbers marks in
-      let ms = marks_after level ground numbers marks in
+      let ns = numbers_after level grounds numbers marks in
+      let ms = marks_after level grounds numbers marks in
       elim (dec_lt (length lent) 1) [
         | yes h ↦ (short-beside turning-told lent ns numbers h, short-beside turning-told lent ms marks h)
         | no m ↦
             let room : Room turning-told lent = omega arith in
-            let s = turn.lists-stay level ground numbers marks (λ z. n (roomy-returned turning-told lent room ∙ z)) in
+            let s = turn.lists-stay level grounds numbers marks (λ z. n (roomy-returned turning-told lent room ∙ z)) in
             (roomy-beside turning-told lent ns numbers room ∙ s.0, roomy-beside turning-told lent ms marks room ∙ s.1)
       ]

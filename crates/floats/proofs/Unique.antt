@@ -24,26 +24,26 @@ floats-unique xs ys f g e = sym (bits-back xs f) ∙ ap (map (of_bits binary32))
 
 -- the scan: the number, the list of its answer, and the bits in the list of the least and the greatest
 pub host-level-scan-unique
-    : (level : List Float) (ground : List ℕ) (extent : List Float) (lent : List ℕ) (r s : ℕ) (now now' : List ℕ)
+    : (level : List Float) (grounds : List ℕ) (extent : List Float) (lent : List ℕ) (r s : ℕ) (now now' : List ℕ)
     (after after' : List Float) →
-    ScansLevelForHost level ground extent lent r now after → ScansLevelForHost level ground extent lent s now' after' →
+    ScansLevelForHost level grounds extent lent r now after → ScansLevelForHost level grounds extent lent s now' after' →
     (r ≡ s) × (now ≡ now') × (bits_in after ≡ bits_in after')
-host-level-scan-unique level ground extent lent r s now now' after after' g h =
-    let t = of_level_scan (scan_for extent (scan_of level ground)) in (
+host-level-scan-unique level grounds extent lent r s now now' after after' g h =
+    let t = of_level_scan (scan_for extent (scan_of level grounds)) in (
       value-unique r s (answer_code t lent) g.0 h.0,
       value-unique now now' (answer_list t lent) g.1 h.1,
-      value-unique (bits_in after) (bits_in after') (extent_beside level ground extent lent) g.2 h.2,
+      value-unique (bits_in after) (bits_in after') (extent_beside level grounds extent lent) g.2 h.2,
     )
 
 -- a level turned into a field: the number, the list of its answer, and the two lists that are filled
 pub host-turn-unique
-    : (level : List Float) (ground numbers marks lent : List ℕ) (r s : ℕ) (now ns ms now' ns' ms' : List ℕ) →
-    TurnsForHost level ground numbers marks lent r now ns ms → TurnsForHost level ground numbers marks lent s now' ns' ms' →
+    : (level : List Float) (grounds numbers marks lent : List ℕ) (r s : ℕ) (now ns ms now' ns' ms' : List ℕ) →
+    TurnsForHost level grounds numbers marks lent r now ns ms → TurnsForHost level grounds numbers marks lent s now' ns' ms' →
     (r ≡ s) × (now ≡ now') × (ns ≡ ns') × (ms ≡ ms')
-host-turn-unique level ground numbers marks lent r s now ns ms now' ns' ms' g h =
-    let t = of_turning (turning_of level ground numbers marks) in (
+host-turn-unique level grounds numbers marks lent r s now ns ms now' ns' ms' g h =
+    let t = of_turning (turning_of level grounds numbers marks) in (
       value-unique r s (answer_code t lent) g.0 h.0,
       value-unique now now' (answer_list t lent) g.1 h.1,
-      value-unique ns ns' (turned_beside level ground numbers marks lent) g.2 h.2,
-      value-unique ms ms' (unmarked_beside level ground numbers marks lent) g.3 h.3,
+      value-unique ns ns' (turned_beside level grounds numbers marks lent) g.2 h.2,
+      value-unique ms ms' (unmarked_beside level grounds numbers marks lent) g.3 h.3,
     )

@@ -26,19 +26,19 @@ unfoldable pub extent_after : Scanned → List Float → List ℕ
 extent_after s extent =
     cond (eqb s.code 0) (put 0 (s.least ∷ s.greatest ∷ []) (bits_in extent)) (bits_in extent)
 
-abbrev pub extent_beside : (level : List Float) → (ground : List ℕ) → (extent : List Float) → (lent : List ℕ) → List ℕ
-extent_beside level ground extent lent =
-    let s = scan_for extent (scan_of level ground) in
+abbrev pub extent_beside : (level : List Float) → (grounds : List ℕ) → (extent : List Float) → (lent : List ℕ) → List ℕ
+extent_beside level grounds extent lent =
+    let s = scan_for extent (scan_of level grounds) in
     besides (of_level_scan s) lent (extent_after s extent) (bits_in extent)
 
 -- its whole contract: the number, the list of its answer, and the list of the least and the greatest
 abbrev pub ScansLevelForHost
-    : (level : List Float) → (ground : List ℕ) → (extent : List Float) → (lent : List ℕ) → ℕ → List ℕ → List Float →
+    : (level : List Float) → (grounds : List ℕ) → (extent : List Float) → (lent : List ℕ) → ℕ → List ℕ → List Float →
     Type 0
-ScansLevelForHost level ground extent lent r now after =
-    (r ≡ answer_code (of_level_scan (scan_for extent (scan_of level ground))) lent)
-    × (now ≡ answer_list (of_level_scan (scan_for extent (scan_of level ground))) lent)
-    × (bits_in after ≡ extent_beside level ground extent lent)
+ScansLevelForHost level grounds extent lent r now after =
+    (r ≡ answer_code (of_level_scan (scan_for extent (scan_of level grounds))) lent)
+    × (now ≡ answer_list (of_level_scan (scan_for extent (scan_of level grounds))) lent)
+    × (bits_in after ≡ extent_beside level grounds extent lent)
 
 -- ---- a level turned into a field
 
@@ -46,19 +46,19 @@ abbrev pub of_turning : Turning → Told
 of_turning t = record { code = t.code; words = t.place ∷ [] }
 
 -- the field's two lists, which stay where the answer has no room
-abbrev pub turned_beside : (level : List Float) → (ground numbers marks lent : List ℕ) → List ℕ
-turned_beside level ground numbers marks lent =
-    besides (of_turning (turning_of level ground numbers marks)) lent (numbers_after level ground numbers marks) numbers
+abbrev pub turned_beside : (level : List Float) → (grounds numbers marks lent : List ℕ) → List ℕ
+turned_beside level grounds numbers marks lent =
+    besides (of_turning (turning_of level grounds numbers marks)) lent (numbers_after level grounds numbers marks) numbers
 
-abbrev pub unmarked_beside : (level : List Float) → (ground numbers marks lent : List ℕ) → List ℕ
-unmarked_beside level ground numbers marks lent =
-    besides (of_turning (turning_of level ground numbers marks)) lent (marks_after level ground numbers marks) marks
+abbrev pub unmarked_beside : (level : List Float) → (grounds numbers marks lent : List ℕ) → List ℕ
+unmarked_beside level grounds numbers marks lent =
+    besides (of_turning (turning_of level grounds numbers marks)) lent (marks_after level grounds numbers marks) marks
 
 -- its whole contract: the number, the list of its answer, and the two lists that it fills
 abbrev pub TurnsForHost
-    : (level : List Float) → (ground numbers marks lent : List ℕ) → ℕ → List ℕ → List ℕ → List ℕ → Type 0
-TurnsForHost level ground numbers marks lent r now ns ms =
-    (r ≡ answer_code (of_turning (turning_of level ground numbers marks)) lent)
-    × (now ≡ answer_list (of_turning (turning_of level ground numbers marks)) lent)
-    × (ns ≡ turned_beside level ground numbers marks lent)
-    × (ms ≡ unmarked_beside level ground numbers marks lent)
+    : (level : List Float) → (grounds numbers marks lent : List ℕ) → ℕ → List ℕ → List ℕ → List ℕ → Type 0
+TurnsForHost level grounds numbers marks lent r now ns ms =
+    (r ≡ answer_code (of_turning (turning_of level grounds numbers marks)) lent)
+    × (now ≡ answer_list (of_turning (turning_of level grounds numbers marks)) lent)
+    × (ns ≡ turned_beside level grounds numbers marks lent)
+    × (ms ≡ unmarked_beside level grounds numbers marks lent)

@@ -22,18 +22,18 @@ const EXTENT_LENGTH: usize = 2;
 #[unsafe(no_mangle)]
 pub extern "C" fn razovinto_level_scan(
     level: &[f32],
-    ground: &[u8],
+    grounds: &[u8],
     extent: &mut [f32],
     answer: &mut [u64],
 ) -> u32
     ensures value { result ≡
-        answer_code (of_level_scan (scan_for extent.old (scan_of level.now ground.now)))
+        answer_code (of_level_scan (scan_for extent.old (scan_of level.now grounds.now)))
         answer.old }
     ensures answer_new { answer.new ≡
-        answer_list (of_level_scan (scan_for extent.old (scan_of level.now ground.now)))
+        answer_list (of_level_scan (scan_for extent.old (scan_of level.now grounds.now)))
         answer.old }
     ensures extent_new { bits_in extent.new ≡
-        extent_beside level.now ground.now extent.old answer.old }
+        extent_beside level.now grounds.now extent.old answer.old }
 {
     if answer.len() < PLACE_LENGTH {
         return too_short();
@@ -42,7 +42,7 @@ pub extern "C" fn razovinto_level_scan(
         answer[0] = 0;
         return too_short();
     }
-    match scan(level, ground) {
+    match scan(level, grounds) {
         LevelScan::Ranged(found) => {
             extent[0] = found.least;
             extent[1] = found.greatest;
@@ -61,7 +61,7 @@ pub extern "C" fn razovinto_level_scan(
 #[unsafe(no_mangle)]
 pub extern "C" fn razovinto_level_to_field(
     level: &[f32],
-    ground: &[u8],
+    grounds: &[u8],
     numbers: &mut [u64],
     marks: &mut [u8],
     answer: &mut [u64],
@@ -69,24 +69,24 @@ pub extern "C" fn razovinto_level_to_field(
     ensures value { result ≡
         answer_code
         (of_turning
-        (turning_of level.now ground.now numbers.old marks.old))
+        (turning_of level.now grounds.now numbers.old marks.old))
         answer.old }
     ensures answer_new { answer.new ≡
         answer_list
         (of_turning
-        (turning_of level.now ground.now numbers.old marks.old))
+        (turning_of level.now grounds.now numbers.old marks.old))
         answer.old }
     ensures numbers_new { numbers.new ≡
-        turned_beside level.now ground.now numbers.old marks.old
+        turned_beside level.now grounds.now numbers.old marks.old
         answer.old }
     ensures marks_new { marks.new ≡
-        unmarked_beside level.now ground.now numbers.old marks.old
+        unmarked_beside level.now grounds.now numbers.old marks.old
         answer.old }
 {
     if answer.len() < PLACE_LENGTH {
         return too_short();
     }
-    match turn(level, ground, numbers, marks) {
+    match turn(level, grounds, numbers, marks) {
         Turn::Field => {
             answer[0] = 0;
             0

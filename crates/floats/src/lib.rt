@@ -1,2 +1,4 @@
 // What a host calls on raw floats: `levels` has the entries.
+#![tactic(auto)]
+
 pub mod levels;

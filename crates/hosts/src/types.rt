@@ -1,6 +1,6 @@
 // A run's phase in numbers: 0 between items, 1 within a power, 2 within a logarithm; and the numbers of both, of which
 // those of the phase that it isn't in are 0.
-#[derive(Drop)]
+#[derive(Clone, Copy)]
 pub struct PhaseNumbers {
     pub phase: u64,
     pub firstmark: u64,

@@ -1,5 +1,6 @@
 // The places of a block, for the crates that look at one: the numbers of `specs/Editions.antt`. There is no function
 // here.
+#![tactic(auto)]
 
 // A block is so many bytes.
 pub const BLOCK_LENGTH: usize = 512;

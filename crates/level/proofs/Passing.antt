@@ -26,9 +26,9 @@ use Rattle.level.proofs.Parts.{Settling, settling}
 use Rattle.level.proofs.Stages.{at-extent, passed-on}
 
 -- x and y are the least and the greatest of the readings before place i, which have no fault
-pub record Passed (level : List Float) (ground : List ℕ) (x y : Float) (i : ℕ) : Type 0 where
+pub record Passed (level : List Float) (grounds : List ℕ) (x y : Float) (i : ℕ) : Type 0 where
   pub within : i ≤ length level
-  pub no-fault : NoFaultBefore (fault_at level ground) i
+  pub no-fault : NoFaultBefore (fault_at level grounds) i
   pub least : bits_of x ≡ lowest level i
   pub greatest : bits_of y ≡ highest level i
   pub least-number : is_nan x ≡ false
@@ -48,12 +48,12 @@ unfolding nan_bits
 minus-infinity-number = refl
 
 pub passed-none
-    : (level : List Float) (ground : List ℕ) →
-    Passed level ground (of_bits binary32 infinity) (of_bits binary32 minus_infinity) 0
-passed-none level ground =
+    : (level : List Float) (grounds : List ℕ) →
+    Passed level grounds (of_bits binary32 infinity) (of_bits binary32 minus_infinity) 0
+passed-none level grounds =
     record {
       within = omega arith;
-      no-fault = no-fault-before-0 (fault_at level ground);
+      no-fault = no-fault-before-0 (fault_at level grounds);
       least =
           bits-of-made infinity (omega arith) infinity-number ∙ sym (kept-none lower infinity (bits_at level));
       greatest =
@@ -89,15 +89,15 @@ lowest-positive level fitting n = rank-positive (lowest level n) below
 -- ---- a part
 
 -- what is passed before it, and the ranks that are found up to its end
-pub record Part (level : List Float) (ground : List ℕ) (x y : Float) (from to least greatest : ℕ) : Type 0 where
-  pub passed : Passed level ground x y from
+pub record Part (level : List Float) (grounds : List ℕ) (x y : Float) (from to least greatest : ℕ) : Type 0 where
+  pub passed : Passed level grounds x y from
   pub forward : from ≤ to
   pub within : to ≤ length level
   pub ranked : RankedTo level from to least greatest
 
 module _
-    {level : List Float} {ground : List ℕ} {x y : Float} {from to least greatest : ℕ}
-    (part : Part level ground x y from to least greatest)
+    {level : List Float} {grounds : List ℕ} {x y : Float} {from to least greatest : ℕ}
+    (part : Part level grounds x y from to least greatest)
   where
     pub unusable-in
         : ((j : ℕ) → T (fits binary32 (get_or level j nan))) → least ≡ 0 → UnusableFrom level from to
@@ -127,13 +127,13 @@ module _
           part.passed.greatest usable-in.2 part.within part.passed.greatest-number usable-in.0
 
       pub passed-part
-          : {x' y' : Float} → every (marked_at ground) (length level) ≡ true → x' ≡ settled level from to x least →
-          y' ≡ settled level from to y greatest → Passed level ground x' y' to
+          : {x' y' : Float} → every (marked_at grounds) (length level) ≡ true → x' ≡ settled level from to x least →
+          y' ≡ settled level from to y greatest → Passed level grounds x' y' to
       passed-part marked l g =
           record {
             within = part.within;
             no-fault =
-                passed-on level ground from to marked part.within part.passed.no-fault usable-in.0;
+                passed-on level grounds from to marked part.within part.passed.no-fault usable-in.0;
             least = ap bits_of l ∙ least-settles.bits;
             greatest = ap bits_of g ∙ greatest-settles.bits;
             least-number = ap is_nan l ∙ least-settles.a-number;
@@ -143,11 +143,11 @@ module _
 -- ---- past the last part
 
 pub passed-all
-    : (level : List Float) (ground : List ℕ) {x y : Float} {i : ℕ} → length level ≡ length ground →
-    (length level ≡ 0 → ⊥) → length level ≤ i → Passed level ground x y i →
-    ranged (bits_of x) (bits_of y) ≡ scan_of level ground
-passed-all level ground {i = i} e n h p =
+    : (level : List Float) (grounds : List ℕ) {x y : Float} {i : ℕ} → length level ≡ length grounds →
+    (length level ≡ 0 → ⊥) → length level ≤ i → Passed level grounds x y i →
+    ranged (bits_of x) (bits_of y) ≡ scan_of level grounds
+passed-all level grounds {i = i} e n h p =
     let w = p.within in
     let past : i ≡ length level = omega arith in
     ap₂ ranged (p.least ∙ ap (lowest level) past) (p.greatest ∙ ap (highest level) past)
-    ∙ sym (at-extent level ground e n (subst (NoFaultBefore (fault_at level ground)) past p.no-fault))
+    ∙ sym (at-extent level grounds e n (subst (NoFaultBefore (fault_at level grounds)) past p.no-fault))

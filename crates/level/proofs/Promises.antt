@@ -105,30 +105,30 @@ taken level beyond direction m n h first =
       | replaced i a b s g none ↦ (i, b, sym s, λ j k q. none j k (q ∙ ap rank_of s))
     ]
 
-module _ (level : List Float) (ground : List ℕ) where
+module _ (level : List Float) (grounds : List ℕ) where
   -- ---- the refusals
 
   -- 6, with place 0, exactly when the lengths differ
-  pub refused-6-exactly : (scan_of level ground ≡ refused 6 0) ↔ (length level ≡ length ground → ⊥)
-  refused-6-exactly = (stages level ground).six
+  pub refused-6-exactly : (scan_of level grounds ≡ refused 6 0) ↔ (length level ≡ length grounds → ⊥)
+  refused-6-exactly = (stages level grounds).six
 
   -- 14, with place 0, exactly when they are equal and the level is empty
-  pub refused-14-exactly : (scan_of level ground ≡ refused 14 0) ↔ ((length level ≡ length ground) × (length level ≡ 0))
-  refused-14-exactly = (stages level ground).fourteen
+  pub refused-14-exactly : (scan_of level grounds ≡ refused 14 0) ↔ ((length level ≡ length grounds) × (length level ≡ 0))
+  refused-14-exactly = (stages level grounds).fourteen
 
   module _ (i : ℕ) where
     abbrev reading : Float
     reading = get_or level i nan
 
     abbrev mark : ℕ
-    mark = get_or ground i 0
+    mark = get_or grounds i 0
 
     at-place
         : {P : Type 0} (c : ℕ) → (c ≡ 0 → ⊥) × (c ≡ 6 → ⊥) × (c ≡ 14 → ⊥) × (c ≡ 19 → ⊥) → (fault_of reading mark ≡ c) ↔ P →
-        (scan_of level ground ≡ refused c i)
-        ↔ ((length level ≡ length ground) × (i < length level) × P × NoFaultBefore (fault_at level ground) i)
+        (scan_of level grounds ≡ refused c i)
+        ↔ ((length level ≡ length grounds) × (i < length level) × P × NoFaultBefore (fault_at level grounds) i)
     at-place c apart told =
-        let w = (stages level ground).at c i apart in (
+        let w = (stages level grounds).at c i apart in (
           λ r. let (e, o, f) = w.0 r in (e, f.0, told.0 f.1, f.2),
           λ p. w.1 (p.0, refl, (p.1, told.1 p.2, p.3)),
         )
@@ -137,8 +137,8 @@ module _ (level : List Float) (ground : List ℕ) where
     -- has a
     -- fault
     pub refused-15-exactly
-        : (scan_of level ground ≡ refused 15 i)
-        ↔ ((length level ≡ length ground) × (i < length level) × (1 < mark) × NoFaultBefore (fault_at level ground) i)
+        : (scan_of level grounds ≡ refused 15 i)
+        ↔ ((length level ≡ length grounds) × (i < length level) × (1 < mark) × NoFaultBefore (fault_at level grounds) i)
     refused-15-exactly =
         at-place 15 (λ e. omega arith, λ e. omega arith, λ e. omega arith, λ e. omega arith) (fault-15-exactly reading mark)
 
@@ -146,34 +146,34 @@ module _ (level : List Float) (ground : List ℕ) where
     -- the
     -- reading is NaN or infinite, and no place before it has a fault
     pub refused-22-exactly
-        : (scan_of level ground ≡ refused 22 i)
-        ↔ ((length level ≡ length ground) × (i < length level) × ((mark ≤ 1) × NotUsable reading)
-        × NoFaultBefore (fault_at level ground) i)
+        : (scan_of level grounds ≡ refused 22 i)
+        ↔ ((length level ≡ length grounds) × (i < length level) × ((mark ≤ 1) × NotUsable reading)
+        × NoFaultBefore (fault_at level grounds) i)
     refused-22-exactly =
         at-place 22 (λ e. omega arith, λ e. omega arith, λ e. omega arith, λ e. omega arith) (fault-22-exactly reading mark)
 
   -- 0 exactly when the lengths are equal, the level isn't empty, every mark is 0 or 1 and every reading is usable
   pub ranged-exactly
-      : ((scan_of level ground).code ≡ 0)
-      ↔ ((length level ≡ length ground) × (0 < length level)
-      × ((i : ℕ) → i < length level → (get_or ground i 0 ≤ 1) × (usable_at level i ≡ true)))
+      : ((scan_of level grounds).code ≡ 0)
+      ↔ ((length level ≡ length grounds) × (0 < length level)
+      × ((i : ℕ) → i < length level → (get_or grounds i 0 ≤ 1) × (usable_at level i ≡ true)))
   ranged-exactly = (
-    λ z. let (e, h, o, b) = (stages level ground).nothing.0 z in
-        (e, h, λ i k. faultless-is (get_or level i nan) (get_or ground i 0) (b i k)),
-    λ p. (stages level ground).nothing.1
-        (p.0, p.1, refl, λ i k. let f = p.2 i k in sound-is (get_or level i nan) (get_or ground i 0) f.0 f.1),
+    λ z. let (e, h, o, b) = (stages level grounds).nothing.0 z in
+        (e, h, λ i k. faultless-is (get_or level i nan) (get_or grounds i 0) (b i k)),
+    λ p. (stages level grounds).nothing.1
+        (p.0, p.1, refl, λ i k. let f = p.2 i k in sound-is (get_or level i nan) (get_or grounds i 0) f.0 f.1),
   )
 
   -- no unusable reading is ever passed over: with one the scan is refused
-  pub never-passed-over : (i : ℕ) → i < length level → NotUsable (get_or level i nan) → (scan_of level ground).code ≡ 0 → ⊥
+  pub never-passed-over : (i : ℕ) → i < length level → NotUsable (get_or level i nan) → (scan_of level grounds).code ≡ 0 → ⊥
   never-passed-over i h n z =
       false≢true (sym ((not-usable-exactly (get_or level i nan)).1 n) ∙ ((ranged-exactly.0 z).2 i h).1)
 
   -- no other number is given
   pub only-codes
-      : ((scan_of level ground).code ≡ 0)
-      ⊎ (((scan_of level ground).code ≡ 6)
-      ⊎ (((scan_of level ground).code ≡ 14) ⊎ (((scan_of level ground).code ≡ 15) ⊎ ((scan_of level ground).code ≡ 22))))
+      : ((scan_of level grounds).code ≡ 0)
+      ⊎ (((scan_of level grounds).code ≡ 6)
+      ⊎ (((scan_of level grounds).code ≡ 14) ⊎ (((scan_of level grounds).code ≡ 15) ⊎ ((scan_of level grounds).code ≡ 22))))
   only-codes =
       ⊎_elim (λ e. inl (ap (λ s. s.code) e))
       (⊎_elim (λ e. inr (inl (ap (λ s. s.code) e)))
@@ -182,23 +182,23 @@ module _ (level : List Float) (ground : List ℕ) where
       (λ (i, (m, e)).
       ⊎_elim (λ f. absurd (m f))
       (⊎_elim (λ f. inr (inr (inr (inl (ap (λ s. s.code) e ∙ f))))) (λ f. inr (inr (inr (inr (ap (λ s. s.code) e ∙ f))))))
-      (fault-codes (get_or level i nan) (get_or ground i 0))))))
-      (stages level ground).answers
+      (fault-codes (get_or level i nan) (get_or grounds i 0))))))
+      (stages level grounds).answers
 
   -- ---- the least and the greatest
 
-  module _ (readings : Readings level) (ranged : (scan_of level ground).code ≡ 0) where
+  module _ (readings : Readings level) (ranged : (scan_of level grounds).code ≡ 0) where
     abbrev least : ℕ
-    least = (scan_of level ground).least
+    least = (scan_of level grounds).least
 
     abbrev greatest : ℕ
-    greatest = (scan_of level ground).greatest
+    greatest = (scan_of level grounds).greatest
 
     lowest-is : lowest level (length level) ≡ least
-    lowest-is = sym (ap (λ s. s.least) ((stages level ground).then-given ranged))
+    lowest-is = sym (ap (λ s. s.least) ((stages level grounds).then-given ranged))
 
     highest-is : highest level (length level) ≡ greatest
-    highest-is = sym (ap (λ s. s.greatest) ((stages level ground).then-given ranged))
+    highest-is = sym (ap (λ s. s.greatest) ((stages level grounds).then-given ranged))
 
     -- the first reading lies between the infinities, where the looking starts
     first-between : (8388609 ≤ rank (get_or level 0 nan)) × (rank (get_or level 0 nan) ≤ 4286578687)

@@ -23,8 +23,8 @@ extent_of level = ranged (lowest level (length level)) (highest level (length le
 
 -- 6 for lists of different lengths, 14 for an empty level, then the earliest fault, or the extent
 unfoldable pub scan_of : List Float → List ℕ → Scanned
-scan_of level ground =
-    cond (eqb (length level) (length ground))
+scan_of level grounds =
+    cond (eqb (length level) (length grounds))
     (cond (eqb (length level) 0) (refused 14 0)
-    (at_first_fault (fault_at level ground) (length level) refused (extent_of level)))
+    (at_first_fault (fault_at level grounds) (length level) refused (extent_of level)))
     (refused 6 0)

@@ -33,19 +33,19 @@ fn fault(x: f32, mark: u8) -> Refusal
 }
 
 // The refusal at the earliest place with a fault, which isn't before place `from`.
-pub(crate) fn refuse(level: &[f32], ground: &[u8], from: usize) -> LevelScan
-    requires level_len { length level.now ≡ length ground.now }
-    requires no_fault_before { NoFaultBefore (fault_at level.now ground.now) from }
-    requires level_in_bounds { first_fault (fault_at level.now ground.now) (length level.now) < length level.now }
+pub(crate) fn refuse(level: &[f32], grounds: &[u8], from: usize) -> LevelScan
+    requires level_len { length level.now ≡ length grounds.now }
+    requires no_fault_before { NoFaultBefore (fault_at level.now grounds.now) from }
+    requires level_in_bounds { first_fault (fault_at level.now grounds.now) (length level.now) < length level.now }
     ensures { scanned result ≡
         refused
-        (fault_at level.now ground.now
-        (first_fault (fault_at level.now ground.now) (length level.now)))
-        (first_fault (fault_at level.now ground.now) (length level.now)) }
+        (fault_at level.now grounds.now
+        (first_fault (fault_at level.now grounds.now) (length level.now)))
+        (first_fault (fault_at level.now grounds.now) (length level.now)) }
 {
     let mut place = from;
-    while faultless(level[place], ground[place]) {
+    while faultless(level[place], grounds[place]) {
         place = place + 1;
     }
-    LevelScan::Refused(fault(level[place], ground[place]), place as u64)
+    LevelScan::Refused(fault(level[place], grounds[place]), place as u64)
 }

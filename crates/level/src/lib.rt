@@ -1,4 +1,6 @@
 // The scan of a level: `scan::scan`.
+#![tactic(auto)]
+
 mod extent;
 mod faults;
 mod ranks;

@@ -11,7 +11,7 @@ use reading::types::Reading;
 
 // The ranks of the least and the greatest reading. Where a reading isn't usable the least is 0, which is no usable
 // reading's rank.
-#[derive(Drop)]
+#[derive(Clone, Copy)]
 pub(crate) struct Ranks {
     pub least: u32,
     pub greatest: u32,
@@ -47,9 +47,9 @@ fn larger(a: u32, b: u32) -> u32
 }
 
 // The extent's ranks with those of the readings from place `from` to before place `to`. There is no early exit.
-pub(crate) fn ranked(level: &[f32], ground: &[u8], from: usize, to: usize, extent: Extent) -> Ranks
+pub(crate) fn ranked(level: &[f32], grounds: &[u8], from: usize, to: usize, extent: Extent) -> Ranks
     requires to_in_bounds { to ≤ length level.now }
-    requires to_in_bounds_2 { to ≤ length ground.now }
+    requires to_in_bounds_2 { to ≤ length grounds.now }
     requires from_le_to { from ≤ to }
     requires least_value { bits_of extent.least ≡ lowest level.now from }
     requires greatest_value { bits_of extent.greatest ≡ highest level.now from }
@@ -61,7 +61,7 @@ pub(crate) fn ranked(level: &[f32], ground: &[u8], from: usize, to: usize, exten
     let mut greatest = rank(extent.greatest);
     let mut i = from;
     while i < to {
-        let rank = match seen(level[i], ground[i]) {
+        let rank = match seen(level[i], grounds[i]) {
             Reading::Air(x) | Reading::Ground(x) => rank(x),
             Reading::Unusable => 0,
         };

@@ -24,17 +24,17 @@ fn lesser(a: usize, b: usize) -> usize
 }
 
 // The least and the greatest reading of a level. The lists' lengths come first, then the earliest place with a fault.
-pub fn scan(level: &[f32], ground: &[u8]) -> LevelScan
-    ensures { scanned result ≡ scan_of level.now ground.now }
+pub fn scan(level: &[f32], grounds: &[u8]) -> LevelScan
+    ensures { scanned result ≡ scan_of level.now grounds.now }
 {
-    if level.len() != ground.len() {
+    if level.len() != grounds.len() {
         return LevelScan::Refused(Refusal::LengthsDiffer, 0);
     }
     if level.len() == 0 {
         return LevelScan::Refused(Refusal::FieldEmpty, 0);
     }
-    if !all_marked(ground) {
-        return refuse(level, ground, 0);
+    if !all_marked(grounds) {
+        return refuse(level, grounds, 0);
     }
     let mut extent = Extent {
         least: f32::from_bits(0x7f80_0000),
@@ -43,9 +43,9 @@ pub fn scan(level: &[f32], ground: &[u8]) -> LevelScan
     let mut at = 0;
     while at < level.len() {
         let end = at + lesser(level.len() - at, PART);
-        let ranks = ranked(level, ground, at, end, extent);
+        let ranks = ranked(level, grounds, at, end, extent);
         if ranks.least == 0 {
-            return refuse(level, ground, at);
+            return refuse(level, grounds, at);
         }
         extent = Extent {
             least: settle(level, at, end, extent.least, ranks.least),

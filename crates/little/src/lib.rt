@@ -1,2 +1,4 @@
 // Numbers as bytes, the lowest first: `bytes` has functions both ways.
+#![tactic(auto)]
+
 pub mod bytes;

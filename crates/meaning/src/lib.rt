@@ -1,1 +1,2 @@
 // Laws only: this crate has no function.
+#![tactic(auto)]

@@ -1,5 +1,7 @@
 // An operation of a recipe: `begin::begin` is its first step, `work::work` its further steps, and `within` has their
 // parts.
+#![tactic(auto)]
+
 pub mod begin;
 pub mod types;
 pub mod within;

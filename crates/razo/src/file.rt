@@ -3,7 +3,7 @@ use crate::text::{fail, same};
 use libc::STDIN_FILENO;
 
 // How far a part was filled: to its own end, or so many bytes to the end of the input or to a read that failed.
-#[derive(Drop)]
+#[derive(Clone, Copy)]
 pub(crate) enum Filled {
     Full,
     Ended(usize),

@@ -16,7 +16,7 @@ use lines::put::word;
 const READINGS: usize = 16384;
 
 // What lies behind: bytes of floats, ground marks, and the scan of the readings that have one.
-#[derive(Drop)]
+#[derive(Clone, Copy)]
 struct Behind {
     bytes: u64,
     marks: u64,
@@ -24,7 +24,7 @@ struct Behind {
 }
 
 // Whether both files have ended; or that one couldn't be read, which was told.
-#[derive(Drop)]
+#[derive(Clone, Copy)]
 enum Part {
     On(Behind),
     Ended(Behind),

@@ -1,4 +1,6 @@
 // razo: the tool for operators at a terminal, over the library. It looks into files of blocks and levels and runs recipes.
+#![tactic(auto)]
+
 mod exact;
 mod file;
 mod help;
@@ -27,7 +29,7 @@ use crate::write_command::{LARGEST_BLOCK_NUMBER, write_parts};
 use libc::{STDERR_FILENO, STDIN_FILENO, STDOUT_FILENO};
 
 // What is done with a file of blocks; or with one of numbers, whose first block gets this number.
-#[derive(Drop)]
+#[derive(Clone, Copy)]
 enum Command {
     Search,
     Read,

@@ -11,7 +11,7 @@ use field::types::Scan;
 use lines::put::word;
 
 // How many blocks were read, how many of them are bad, and how many have overflowed values.
-#[derive(Drop)]
+#[derive(Clone, Copy)]
 struct Tally {
     blocks: u64,
     bad: u64,
@@ -19,14 +19,14 @@ struct Tally {
 }
 
 // The lines so far end at place `at`.
-#[derive(Drop)]
+#[derive(Clone, Copy)]
 struct Listed {
     at: usize,
     tally: Tally,
 }
 
 // Whether reading goes on, and then with which tally; or how it ended.
-#[derive(Drop)]
+#[derive(Clone, Copy)]
 enum Listing {
     On(Tally),
     Over(u8),

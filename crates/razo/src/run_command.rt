@@ -6,14 +6,14 @@ use crate::words::{Word, word_of};
 use recipe::run::run;
 
 // A number that was asked for, or nothing.
-#[derive(Drop)]
+#[derive(Clone, Copy)]
 pub(crate) enum Given {
     Number(u64),
     Nothing,
 }
 
 // An item of a recipe, or nothing.
-#[derive(Drop)]
+#[derive(Clone, Copy)]
 enum Item {
     Item { kind: u8, number: u64 },
     Nothing,

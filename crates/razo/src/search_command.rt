@@ -9,7 +9,7 @@ use search::search::search;
 use search::types::Found;
 
 // Whether the search goes on, and then how many blocks lie behind it; or how it ended.
-#[derive(Drop)]
+#[derive(Clone, Copy)]
 enum Search {
     Behind(u64),
     Over(u8),

@@ -3,7 +3,7 @@ use crate::lists::number_of;
 use checked::types::Checked64;
 
 // What a word says. An operation has its kind's code.
-#[derive(Drop)]
+#[derive(Clone, Copy)]
 pub(crate) enum Word {
     Number(u64),
     TooLarge,

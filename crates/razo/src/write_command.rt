@@ -21,7 +21,7 @@ pub(crate) const LARGEST_BLOCK_NUMBER: u64 = 4294967295;
 
 // How far writing has come. Of the part, the bytes from `from` to before `to` are still to be taken, and `ended` says
 // that the file ends with them. Then the line there, how many values wait, and the number of the next block.
-#[derive(Drop)]
+#[derive(Clone, Copy)]
 struct Progress {
     from: usize,
     to: usize,
@@ -33,7 +33,7 @@ struct Progress {
 
 // Words were taken up to the part's end, which may cut one; up to one for whose value there is no room; or up to one
 // that is wrong, and ends before this place of the part.
-#[derive(Drop)]
+#[derive(Clone, Copy)]
 enum Taken {
     All(Progress),
     Full(Progress),
@@ -41,14 +41,14 @@ enum Taken {
 }
 
 // Whether writing goes on, and then from where; or how it ended.
-#[derive(Drop)]
+#[derive(Clone, Copy)]
 enum Writing {
     On(Progress),
     Over(u8),
 }
 
 // What a word says: a value with its mark, or what is wrong with the word.
-#[derive(Drop)]
+#[derive(Clone, Copy)]
 enum Said {
     Value { number: u64, mark: u8 },
     TooLarge,

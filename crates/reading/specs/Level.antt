@@ -10,4 +10,4 @@ fault_of x mark = cond (leb mark 1) (cond (usable x) 0 22) 15
 
 -- at each place of a level
 abbrev pub fault_at : List Float → List ℕ → ℕ → ℕ
-fault_at level ground i = fault_of (get_or level i nan) (get_or ground i 0)
+fault_at level grounds i = fault_of (get_or level i nan) (get_or grounds i 0)

@@ -23,4 +23,4 @@ usable_at level i = usable (get_or level i nan)
 
 -- a mark that is 0 or 1
 abbrev pub marked_at : List ℕ → ℕ → Bool
-marked_at ground i = leb (get_or ground i 0) 1
+marked_at grounds i = leb (get_or grounds i 0) 1

@@ -13,13 +13,13 @@ fn larger(a: u8, b: u8) -> u8
 }
 
 // Whether each mark is 0 or 1. There is no early exit, so that a compiler looks at several at a time.
-pub fn all_marked(ground: &[u8]) -> bool
-    ensures { result ≡ every (marked_at ground.now) (length ground.now) }
+pub fn all_marked(grounds: &[u8]) -> bool
+    ensures { result ≡ every (marked_at grounds.now) (length grounds.now) }
 {
     let mut most: u8 = 0;
     let mut i = 0;
-    while i < ground.len() {
-        most = larger(most, ground[i]);
+    while i < grounds.len() {
+        most = larger(most, grounds[i]);
         i = i + 1;
     }
     most <= 1

@@ -4,7 +4,7 @@ use checked::types::Checked64;
 use steps::types::Phase;
 
 // The recipe's value; or why there is none, and at which place.
-#[derive(Drop)]
+#[derive(Clone, Copy)]
 pub enum Answer {
     Value(Checked64),
     Refused(Refusal, u64),
@@ -12,7 +12,7 @@ pub enum Answer {
 
 // The answer and the steps taken; and, where the allowance was spent, the items wholly done, the hand from the bottom up and the
 // phase. With any other answer those are 0, empty and between items.
-#[derive(Drop)]
+#[derive(Clone, Copy)]
 pub struct Run {
     pub answer: Answer,
     pub steps: u64,
@@ -24,7 +24,7 @@ pub struct Run {
 
 // A run's state beside its hand: how many values are on hand, how many items are wholly done, the steps taken, and the
 // phase.
-#[derive(Drop)]
+#[derive(Clone, Copy)]
 pub struct State {
     pub held: usize,
     pub done: usize,
@@ -33,7 +33,7 @@ pub struct State {
 }
 
 // What an item's first step comes to: the state after it, in the phase that the item enters, or the item's refusal.
-#[derive(Drop)]
+#[derive(Clone, Copy)]
 pub enum Entered {
     Going(State),
     Refused(Refusal),
@@ -41,7 +41,7 @@ pub enum Entered {
 
 // How far an allowance brought a run: to its value or to a refused item, after how many steps, or to the state where it
 // stopped.
-#[derive(Drop)]
+#[derive(Clone, Copy)]
 pub enum Driven {
     Finished(Checked64, u64),
     Refused(Refusal, usize, u64),

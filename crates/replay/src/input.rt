@@ -6,7 +6,7 @@ ghost use Rattle.io.specs.Counts.{IsPrefixLen};
 const LONGEST: usize = 139277;
 
 // The bytes from `start` up to `end` are still to be used. `is_open` says that more may come.
-#[derive(Drop)]
+#[derive(Clone, Copy)]
 pub struct Window {
     pub start: usize,
     pub end: usize,

@@ -1,6 +1,8 @@
 // Replays recorded cases: reads them from standard input to its end and writes a line of numbers for each. The first malformed
 // case gets the line `malformed` and ends the replay. A case's first byte says which row it is of; the comment above each row's
 // `replay` says what follows, where b is a number of 1 byte, h of 2, w of 4 and q of 8.
+#![tactic(auto)]
+
 mod answers;
 mod case_bytes;
 mod divisions;
@@ -23,7 +25,7 @@ use input::Window;
 use types::{Case, Fault, MOST_ELEMENTS};
 
 // How far the replay is: the window on the input, the place in the output, and whether there is more to do.
-#[derive(Drop)]
+#[derive(Clone, Copy)]
 struct State {
     window: Window,
     at: usize,

@@ -15,7 +15,7 @@ pub const NUMBER_BEFORE: u64 = 7777777;
 pub const BYTE_BEFORE: u8 = 170;
 
 // Why a case is malformed.
-#[derive(Drop)]
+#[derive(Clone, Copy)]
 pub enum Fault {
     // the input ends within it
     CutShort,
@@ -28,7 +28,7 @@ pub enum Fault {
 }
 
 // A case whose line is put, with how many of its bytes were used and the place after the line; or why it is malformed.
-#[derive(Drop)]
+#[derive(Clone, Copy)]
 pub enum Case {
     Answered { used: usize, at: usize },
     Malformed(Fault),

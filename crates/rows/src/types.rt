@@ -6,7 +6,7 @@ use checked::refusal::Refusal;
 
 // An operation as the host keeps it: its kind, from 1 to 6, and its two numbers. A host in C has the same struct.
 #[repr(C)]
-#[derive(Drop)]
+#[derive(Clone, Copy)]
 pub struct OperationRecord {
     pub kind: u8,
     pub left: u64,
@@ -14,7 +14,7 @@ pub struct OperationRecord {
 }
 
 // The elements stand in the lent lists; or why not.
-#[derive(Drop)]
+#[derive(Clone, Copy)]
 pub enum Row {
     Done,
     Refused(Refusal),

@@ -27,22 +27,22 @@ use Rattle.turn.proofs.Promises.{zero-given, numbers-turned, marks-zero, lengths
 
 module _
     (level : List Float)
-    (ground numbers marks : List ℕ)
+    (grounds numbers marks : List ℕ)
     (readings : Readings level)
-    (given : (turning_of level ground numbers marks).code ≡ 0)
+    (given : (turning_of level grounds numbers marks).code ≡ 0)
   where
     abbrev n : ℕ
     n = length level
 
     -- the field that stands in the lent lists
     abbrev field_numbers : List ℕ
-    field_numbers = take n (numbers_after level ground numbers marks)
+    field_numbers = take n (numbers_after level grounds numbers marks)
 
     abbrev field_marks : List ℕ
-    field_marks = take n (marks_after level ground numbers marks)
+    field_marks = take n (marks_after level grounds numbers marks)
 
     abbrev of-level : levels.Scanned
-    of-level = levels.scan_of level ground
+    of-level = levels.scan_of level grounds
 
     abbrev of-field : field.Scanned
     of-field = field.scan_of field_numbers field_marks
@@ -51,31 +51,31 @@ module _
 
     numbers_long : length field_numbers ≡ n
     numbers_long =
-        let r = (zero-given level ground numbers marks given).0 in
-        let e = (lengths-stay level ground numbers marks).0 in
+        let r = (zero-given level grounds numbers marks given).0 in
+        let e = (lengths-stay level grounds numbers marks).0 in
         let l = r.numbers_long in
-        length-take-le n (numbers_after level ground numbers marks) (omega arith)
+        length-take-le n (numbers_after level grounds numbers marks) (omega arith)
 
     marks_long : length field_marks ≡ n
     marks_long =
-        let r = (zero-given level ground numbers marks given).0 in
-        let e = (lengths-stay level ground numbers marks).1 in
+        let r = (zero-given level grounds numbers marks given).0 in
+        let e = (lengths-stay level grounds numbers marks).1 in
         let l = r.marks_long in
-        length-take-le n (marks_after level ground numbers marks) (omega arith)
+        length-take-le n (marks_after level grounds numbers marks) (omega arith)
 
     number_at : (i : ℕ) → i < n → get_or field_numbers i 0 ≡ value_at level i
     number_at i h =
-        get_or-take n (numbers_after level ground numbers marks) i 0 h ∙ numbers-turned level ground numbers marks given i h
+        get_or-take n (numbers_after level grounds numbers marks) i 0 h ∙ numbers-turned level grounds numbers marks given i h
 
     pub level-given : of-level.code ≡ 0
     level-given =
-        let (r, f) = zero-given level ground numbers marks given in
-        (leveled.ranged-exactly level ground).1
+        let (r, f) = zero-given level grounds numbers marks given in
+        (leveled.ranged-exactly level grounds).1
         (r.even, r.some, λ i h. ((f i h).0, whole-usable (get_or level i nan) (f i h).1))
 
     pub field-given : of-field.code ≡ 0
     field-given =
-        let r = (zero-given level ground numbers marks given).0 in
+        let r = (zero-given level grounds numbers marks given).0 in
         let s = r.some in
         (fielded.ranged-exactly field_numbers field_marks).1
         (numbers_long ∙ sym marks_long, let e = numbers_long in omega arith, unmarked)
@@ -84,12 +84,12 @@ module _
         unmarked i h =
             let e = numbers_long in
             let k : i < n = omega arith in
-            get_or-take n (marks_after level ground numbers marks) i 0 k ∙ marks-zero level ground numbers marks given i k
+            get_or-take n (marks_after level grounds numbers marks) i 0 k ∙ marks-zero level grounds numbers marks given i k
 
     -- ---- and agree
 
     whole-at : (i : ℕ) → i < n → is_whole (get_or level i nan) ≡ true
-    whole-at i h = ((zero-given level ground numbers marks given).1 i h).1
+    whole-at i h = ((zero-given level grounds numbers marks given).1 i h).1
 
     -- in the order of sign and bits and by their values
     same-order
@@ -110,12 +110,12 @@ module _
 
     pub least-agrees : of-field.least ≡ value_of (of_bits binary32 of-level.least)
     least-agrees =
-        let (i, h, e, first) = leveled.least-earliest level ground readings level-given in
+        let (i, h, e, first) = leveled.least-earliest level grounds readings level-given in
         let (k, l, q) = fielded.least-among field_numbers field_marks field-given in
         let long = numbers_long in
         let kn : k < n = omega arith in
         let il : i < length field_numbers = omega arith in
-        let bound = leveled.least-bounds level ground readings level-given k kn in
+        let bound = leveled.least-bounds level grounds readings level-given k kn in
         let r : rank (get_or level i nan) ≤ rank (get_or level k nan) = subst (λ b. rank_of b ≤ rank (get_or level k nan)) (sym e) bound in
         let a = same-order i k h kn r in
         let b = fielded.least-bounds field_numbers field_marks field-given i il in
@@ -126,12 +126,12 @@ module _
 
     pub greatest-agrees : of-field.greatest ≡ value_of (of_bits binary32 of-level.greatest)
     greatest-agrees =
-        let (i, h, e, first) = leveled.greatest-earliest level ground readings level-given in
+        let (i, h, e, first) = leveled.greatest-earliest level grounds readings level-given in
         let (k, l, q) = fielded.greatest-among field_numbers field_marks field-given in
         let long = numbers_long in
         let kn : k < n = omega arith in
         let il : i < length field_numbers = omega arith in
-        let bound = leveled.greatest-bounds level ground readings level-given k kn in
+        let bound = leveled.greatest-bounds level grounds readings level-given k kn in
         let r : rank (get_or level k nan) ≤ rank (get_or level i nan) = subst (λ b. rank (get_or level k nan) ≤ rank_of b) (sym e) bound in
         let a = same-order k i kn h r in
         let b = fielded.greatest-bounds field_numbers field_marks field-given i il in

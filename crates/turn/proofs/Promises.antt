@@ -56,97 +56,97 @@ module _ (x : Float) (mark : ℕ) where
   pub fault-0-exactly : (fault_of x mark ≡ 0) ↔ ((mark ≤ 1) × (is_whole x ≡ true))
   fault-0-exactly = (fault-0 x mark, λ p. fine x mark p.0 p.1)
 
-module _ (level : List Float) (ground numbers marks : List ℕ) where
+module _ (level : List Float) (grounds numbers marks : List ℕ) where
   abbrev answer : Turning
-  answer = turning_of level ground numbers marks
+  answer = turning_of level grounds numbers marks
 
   abbrev n : ℕ
   n = length level
 
   abbrev faults : ℕ → ℕ
-  faults = fault_at level ground
+  faults = fault_at level grounds
 
   abbrev Room : Type 0
-  Room = Roomy level ground numbers marks
+  Room = Roomy level grounds numbers marks
 
   -- ---- each refusal exactly
 
   -- 6 exactly when the lists differ in length
-  pub refused-6-exactly : (answer ≡ refused 6 0) ↔ (n ≡ length ground → ⊥)
-  refused-6-exactly = (stages level ground numbers marks).six
+  pub refused-6-exactly : (answer ≡ refused 6 0) ↔ (n ≡ length grounds → ⊥)
+  refused-6-exactly = (stages level grounds numbers marks).six
 
   -- 14 exactly when both are empty
-  pub refused-14-exactly : (answer ≡ refused 14 0) ↔ ((n ≡ 0) × (length ground ≡ 0))
+  pub refused-14-exactly : (answer ≡ refused 14 0) ↔ ((n ≡ 0) × (length grounds ≡ 0))
   refused-14-exactly =
-      let empty = (stages level ground numbers marks).fourteen in
+      let empty = (stages level grounds numbers marks).fourteen in
       (λ r. let (e, z) = empty.0 r in (z, sym e ∙ z), λ p. empty.1 (p.0 ∙ sym p.1, p.0))
 
   -- 19 exactly when they are as long and not empty, and either lent list is shorter
   pub refused-19-exactly
-      : (answer ≡ refused 19 0) ↔ ((n ≡ length ground) × (0 < n) × ((length numbers < n) ⊎ (length marks < n)))
+      : (answer ≡ refused 19 0) ↔ ((n ≡ length grounds) × (0 < n) × ((length numbers < n) ⊎ (length marks < n)))
   refused-19-exactly =
-      let short = (stages level ground numbers marks).nineteen in (
-        λ r. let (e, h, o) = short.0 r in (e, h, short-room level ground numbers marks o),
-        λ p. short.1 (p.0, p.1, room-short level ground numbers marks p.2),
+      let short = (stages level grounds numbers marks).nineteen in (
+        λ r. let (e, h, o) = short.0 r in (e, h, short-room level grounds numbers marks o),
+        λ p. short.1 (p.0, p.1, room-short level grounds numbers marks p.2),
       )
 
   -- no place before i has a fault, in words
-  fine-before : (i : ℕ) → NoFaultBefore faults i ↔ ((j : ℕ) → j < i → FineAt level ground j)
+  fine-before : (i : ℕ) → NoFaultBefore faults i ↔ ((j : ℕ) → j < i → FineAt level grounds j)
   fine-before i = (
-    λ b j h. (fault-0-exactly (get_or level j nan) (get_or ground j 0)).0 (b j h),
-    λ b j h. (fault-0-exactly (get_or level j nan) (get_or ground j 0)).1 (b j h),
+    λ b j h. (fault-0-exactly (get_or level j nan) (get_or grounds j 0)).0 (b j h),
+    λ b j h. (fault-0-exactly (get_or level j nan) (get_or grounds j 0)).1 (b j h),
   )
 
   -- with room for the field a refusal is the first fault, here in words
   refused-at
       : (c i : ℕ) (Words : Type 0) → (c ≡ 0 → ⊥) × (c ≡ 6 → ⊥) × (c ≡ 14 → ⊥) × (c ≡ 19 → ⊥) → (faults i ≡ c) ↔ Words →
-      (answer ≡ refused c i) ↔ (Room × (Reached level ground i × Words))
+      (answer ≡ refused c i) ↔ (Room × (Reached level grounds i × Words))
   refused-at c i Words apart words = (only, back)
     where
-      back : Room × (Reached level ground i × Words) → answer ≡ refused c i
+      back : Room × (Reached level grounds i × Words) → answer ≡ refused c i
       back (r, ((h, b), w)) =
-          ((stages level ground numbers marks).at c i apart).1
-          (r.even, has-room level ground numbers marks r, (h, words.1 w, (fine-before i).1 b))
+          ((stages level grounds numbers marks).at c i apart).1
+          (r.even, has-room level grounds numbers marks r, (h, words.1 w, (fine-before i).1 b))
 
-      only : answer ≡ refused c i → Room × (Reached level ground i × Words)
+      only : answer ≡ refused c i → Room × (Reached level grounds i × Words)
       only r =
-          let (e, o, (h, f, b)) = ((stages level ground numbers marks).at c i apart).0 r in
-          (room-for level ground numbers marks e (omega arith) o, ((h, (fine-before i).0 b), words.0 f))
+          let (e, o, (h, f, b)) = ((stages level grounds numbers marks).at c i apart).0 r in
+          (room-for level grounds numbers marks e (omega arith) o, ((h, (fine-before i).0 b), words.0 f))
 
   -- 15 at place i exactly when there is room, place i has a bad mark, and no place before it has a fault
   pub refused-15-exactly
-      : (i : ℕ) → (answer ≡ refused 15 i) ↔ (Room × (Reached level ground i × BadMarkAt ground i))
+      : (i : ℕ) → (answer ≡ refused 15 i) ↔ (Room × (Reached level grounds i × BadMarkAt grounds i))
   refused-15-exactly i =
-      refused-at 15 i (BadMarkAt ground i) (λ e. omega arith, λ e. omega arith, λ e. omega arith, λ e. omega arith)
-      (fault-15-exactly (get_or level i nan) (get_or ground i 0))
+      refused-at 15 i (BadMarkAt grounds i) (λ e. omega arith, λ e. omega arith, λ e. omega arith, λ e. omega arith)
+      (fault-15-exactly (get_or level i nan) (get_or grounds i 0))
 
   -- 22 at place i exactly when its mark is fine and its reading is NaN or infinite
   pub refused-22-exactly
-      : (i : ℕ) → (answer ≡ refused 22 i) ↔ (Room × (Reached level ground i × UnusableAt level ground i))
+      : (i : ℕ) → (answer ≡ refused 22 i) ↔ (Room × (Reached level grounds i × UnusableAt level grounds i))
   refused-22-exactly i =
-      refused-at 22 i (UnusableAt level ground i) (λ e. omega arith, λ e. omega arith, λ e. omega arith, λ e. omega arith)
-      (fault-22-exactly (get_or level i nan) (get_or ground i 0))
+      refused-at 22 i (UnusableAt level grounds i) (λ e. omega arith, λ e. omega arith, λ e. omega arith, λ e. omega arith)
+      (fault-22-exactly (get_or level i nan) (get_or grounds i 0))
 
   -- 23 at place i exactly when its mark is fine and its reading is a number, but not whole and from 0 to 16,777,215
   pub refused-23-exactly
-      : (i : ℕ) → (answer ≡ refused 23 i) ↔ (Room × (Reached level ground i × NotWholeAt level ground i))
+      : (i : ℕ) → (answer ≡ refused 23 i) ↔ (Room × (Reached level grounds i × NotWholeAt level grounds i))
   refused-23-exactly i =
-      refused-at 23 i (NotWholeAt level ground i) (λ e. omega arith, λ e. omega arith, λ e. omega arith, λ e. omega arith)
-      (fault-23-exactly (get_or level i nan) (get_or ground i 0))
+      refused-at 23 i (NotWholeAt level grounds i) (λ e. omega arith, λ e. omega arith, λ e. omega arith, λ e. omega arith)
+      (fault-23-exactly (get_or level i nan) (get_or grounds i 0))
 
   -- where the number is 0 there is room, and every reading is such a whole number
-  pub zero-given : answer.code ≡ 0 → Room × ((i : ℕ) → i < n → FineAt level ground i)
+  pub zero-given : answer.code ≡ 0 → Room × ((i : ℕ) → i < n → FineAt level grounds i)
   zero-given z =
-      let (e, h, o, b) = (stages level ground numbers marks).nothing.0 z in
-      (room-for level ground numbers marks e h o, (fine-before n).0 b)
+      let (e, h, o, b) = (stages level grounds numbers marks).nothing.0 z in
+      (room-for level grounds numbers marks e h o, (fine-before n).0 b)
 
   -- the field is given exactly when there is room for it and every reading is such a whole number
-  pub given-exactly : (answer ≡ given) ↔ (Room × ((i : ℕ) → i < n → FineAt level ground i))
+  pub given-exactly : (answer ≡ given) ↔ (Room × ((i : ℕ) → i < n → FineAt level grounds i))
   given-exactly = (
     λ r. zero-given (ap (λ w. w.code) r),
     λ p. let r = p.0 in
-        let s = stages level ground numbers marks in
-        s.then-given (s.nothing.1 (r.even, r.some, has-room level ground numbers marks r, (fine-before n).1 p.1)),
+        let s = stages level grounds numbers marks in
+        s.then-given (s.nothing.1 (r.even, r.some, has-room level grounds numbers marks r, (fine-before n).1 p.1)),
   )
 
   -- no other answer is given
@@ -166,9 +166,9 @@ module _ (level : List Float) (ground numbers marks : List ℕ) where
       inr (inr (inr (inr (
         i,
         ⊎_elim (λ e. inl (named 15 e)) (⊎_elim (λ e. inr (inl (named 22 e))) (λ e. inr (inr (named 23 e))))
-            (which-fault (get_or level i nan) (get_or ground i 0) m),
+            (which-fault (get_or level i nan) (get_or grounds i 0) m),
       ))))))))
-      (stages level ground numbers marks).answers
+      (stages level grounds numbers marks).answers
 
   -- an unusable reading is never passed over: with one the level is refused
   pub never-passed-over : (i : ℕ) → i < n → usable_at level i ≡ false → answer.code ≡ 0 → ⊥
@@ -178,38 +178,38 @@ module _ (level : List Float) (ground numbers marks : List ℕ) where
   -- ---- what the lent lists hold afterwards
 
   abbrev numbers' : List ℕ
-  numbers' = numbers_after level ground numbers marks
+  numbers' = numbers_after level grounds numbers marks
 
   abbrev marks' : List ℕ
-  marks' = marks_after level ground numbers marks
+  marks' = marks_after level grounds numbers marks
 
   -- on refusal they stay
   pub lists-stay : (answer.code ≡ 0 → ⊥) → (numbers' ≡ numbers) × (marks' ≡ marks)
   lists-stay m = (
-    numbers-are level ground numbers marks ∙ stays level ground numbers marks (value_at level) numbers m,
-    marks-are level ground numbers marks ∙ stays level ground numbers marks (λ i. 0) marks m,
+    numbers-are level grounds numbers marks ∙ stays level grounds numbers marks (value_at level) numbers m,
+    marks-are level grounds numbers marks ∙ stays level grounds numbers marks (λ i. 0) marks m,
   )
 
   module _ (f : ℕ → ℕ) (old : List ℕ) where
     abbrev list' : List ℕ
-    list' = after level ground numbers marks f old
+    list' = after level grounds numbers marks f old
 
     list-at : answer.code ≡ 0 → (i : ℕ) → i < n → get_or list' i 0 ≡ f i
-    list-at z i h = ap (λ l. get_or l i 0) (written level ground numbers marks f old z) ∙ over-at f old n i h
+    list-at z i h = ap (λ l. get_or l i 0) (written level grounds numbers marks f old z) ∙ over-at f old n i h
 
     list-past : (i : ℕ) → n ≤ i → get_or list' i 0 ≡ get_or old i 0
     list-past i h =
         elim (ℕ_discrete answer.code 0) [
-          | yes z ↦ ap (λ l. get_or l i 0) (written level ground numbers marks f old z) ∙ over-past f old n i h
-          | no m ↦ ap (λ l. get_or l i 0) (stays level ground numbers marks f old m)
+          | yes z ↦ ap (λ l. get_or l i 0) (written level grounds numbers marks f old z) ∙ over-past f old n i h
+          | no m ↦ ap (λ l. get_or l i 0) (stays level grounds numbers marks f old m)
         ]
 
     list-long : (Room → n ≤ length old) → length list' ≡ length old
     list-long r =
         elim (ℕ_discrete answer.code 0) [
           | yes z ↦
-              ap length (written level ground numbers marks f old z) ∙ length-over f old n (r (zero-given z).0)
-          | no m ↦ ap length (stays level ground numbers marks f old m)
+              ap length (written level grounds numbers marks f old z) ∙ length-over f old n (r (zero-given z).0)
+          | no m ↦ ap length (stays level grounds numbers marks f old m)
         ]
 
   module _ (z : answer.code ≡ 0) (i : ℕ) (h : i < n) where
@@ -219,7 +219,7 @@ module _ (level : List Float) (ground numbers marks : List ℕ) where
     -- number i is the value of reading i
     pub numbers-turned : get_or numbers' i 0 ≡ value_at level i
     numbers-turned =
-        ap (λ l. get_or l i 0) (numbers-are level ground numbers marks) ∙ list-at (value_at level) numbers z i h
+        ap (λ l. get_or l i 0) (numbers-are level grounds numbers marks) ∙ list-at (value_at level) numbers z i h
 
     -- in words: reading i is exactly that number, from 0 to 16,777,215
     pub numbers-exact : Equals x (get_or numbers' i 0) × (get_or numbers' i 0 < 16777216)
@@ -238,20 +238,20 @@ module _ (level : List Float) (ground numbers marks : List ℕ) where
 
     -- mark i is 0
     pub marks-zero : get_or marks' i 0 ≡ 0
-    marks-zero = ap (λ l. get_or l i 0) (marks-are level ground numbers marks) ∙ list-at (λ j. 0) marks z i h
+    marks-zero = ap (λ l. get_or l i 0) (marks-are level grounds numbers marks) ∙ list-at (λ j. 0) marks z i h
 
   -- what is past the level's length stays
   pub nothing-past-numbers : (i : ℕ) → n ≤ i → get_or numbers' i 0 ≡ get_or numbers i 0
   nothing-past-numbers i h =
-      ap (λ l. get_or l i 0) (numbers-are level ground numbers marks) ∙ list-past (value_at level) numbers i h
+      ap (λ l. get_or l i 0) (numbers-are level grounds numbers marks) ∙ list-past (value_at level) numbers i h
 
   pub nothing-past-marks : (i : ℕ) → n ≤ i → get_or marks' i 0 ≡ get_or marks i 0
   nothing-past-marks i h =
-      ap (λ l. get_or l i 0) (marks-are level ground numbers marks) ∙ list-past (λ j. 0) marks i h
+      ap (λ l. get_or l i 0) (marks-are level grounds numbers marks) ∙ list-past (λ j. 0) marks i h
 
   -- and the lists are as long as they were
   pub lengths-stay : (length numbers' ≡ length numbers) × (length marks' ≡ length marks)
   lengths-stay = (
-    ap length (numbers-are level ground numbers marks) ∙ list-long (value_at level) numbers (λ r. r.numbers_long),
-    ap length (marks-are level ground numbers marks) ∙ list-long (λ j. 0) marks (λ r. r.marks_long),
+    ap length (numbers-are level grounds numbers marks) ∙ list-long (value_at level) numbers (λ r. r.numbers_long),
+    ap length (marks-are level grounds numbers marks) ∙ list-long (λ j. 0) marks (λ r. r.marks_long),
   )

@@ -23,26 +23,26 @@ use Rattle.turn.specs.Turning.{fault_at, Turning, refused, given, turning_of, nu
 use Rattle.turn.specs.Turning.{Roomy, FineAt}
 use Rattle.turn.proofs.Standing.{fine, fault-0, fault-other}
 
-module _ (level : List Float) (ground numbers marks : List ℕ) where
+module _ (level : List Float) (grounds numbers marks : List ℕ) where
   abbrev n : ℕ
   n = length level
 
   abbrev answer : Turning
-  answer = turning_of level ground numbers marks
+  answer = turning_of level grounds numbers marks
 
   abbrev faults : ℕ → ℕ
-  faults = fault_at level ground
+  faults = fault_at level grounds
 
   abbrev roomy : Bool
   roomy = leb n (length numbers) && leb n (length marks)
 
   -- ---- each stage exactly
 
-  pub stages : Exactly refused given (λ t. t.code) (λ t. t.place) n (length ground) roomy faults answer
+  pub stages : Exactly refused given (λ t. t.code) (λ t. t.place) n (length grounds) roomy faults answer
   unfolding turning_of
   stages =
-      exactly refused given (λ t. t.code) (λ t. t.place) (λ c i. refl) (λ c i. refl) refl n (length ground) roomy faults
-      (λ i. fault-other (get_or level i nan) (get_or ground i 0))
+      exactly refused given (λ t. t.code) (λ t. t.place) (λ c i. refl) (λ c i. refl) refl n (length grounds) roomy faults
+      (λ i. fault-other (get_or level i nan) (get_or grounds i 0))
 
   -- room for the field
   pub room-short : (length numbers < n) ⊎ (length marks < n) → roomy ≡ false
@@ -64,10 +64,10 @@ module _ (level : List Float) (ground numbers marks : List ℕ) where
       long : n ≤ length numbers → n ≤ length marks → roomy ≡ true
       long g h = ap₂ ◌&&◌ (le-leb n (length numbers) g) (le-leb n (length marks) h)
 
-  pub has-room : Roomy level ground numbers marks → roomy ≡ true
+  pub has-room : Roomy level grounds numbers marks → roomy ≡ true
   has-room r = ap₂ ◌&&◌ (le-leb n (length numbers) r.numbers_long) (le-leb n (length marks) r.marks_long)
 
-  pub room-for : n ≡ length ground → 0 < n → roomy ≡ true → Roomy level ground numbers marks
+  pub room-for : n ≡ length grounds → 0 < n → roomy ≡ true → Roomy level grounds numbers marks
   room-for e h r =
       let b = both-hold (leb n (length numbers)) (leb n (length marks)) r in
       record {
@@ -83,11 +83,11 @@ module _ (level : List Float) (ground numbers marks : List ℕ) where
   abbrev pub after : (ℕ → ℕ) → List ℕ → List ℕ
   after f old = cond (eqb answer.code 0) (over f n old) old
 
-  pub numbers-are : numbers_after level ground numbers marks ≡ after (value_at level) numbers
+  pub numbers-are : numbers_after level grounds numbers marks ≡ after (value_at level) numbers
   unfolding numbers_after
   numbers-are = refl
 
-  pub marks-are : marks_after level ground numbers marks ≡ after (λ i. 0) marks
+  pub marks-are : marks_after level grounds numbers marks ≡ after (λ i. 0) marks
   unfolding marks_after
   marks-are = refl
 
@@ -103,17 +103,17 @@ module _ (level : List Float) (ground numbers marks : List ℕ) where
   -- what it answers, and what it leaves
   abbrev Does : Turning → List ℕ → List ℕ → Type 0
   Does t ns ms =
-      (t ≡ answer) × ((ns ≡ numbers_after level ground numbers marks) × (ms ≡ marks_after level ground numbers marks))
+      (t ≡ answer) × ((ns ≡ numbers_after level grounds numbers marks) × (ms ≡ marks_after level grounds numbers marks))
 
   does-refuse : {c i : ℕ} → answer ≡ refused c i → (c ≡ 0 → ⊥) → Does (refused c i) numbers marks
   does-refuse e m =
       let f : answer.code ≡ 0 → ⊥ = λ z. m (ap (λ t. t.code) (sym e) ∙ z) in
       (sym e, (sym (numbers-are ∙ stays (value_at level) numbers f), sym (marks-are ∙ stays (λ i. 0) marks f)))
 
-  pub does-unequal : (n ≡ length ground → ⊥) → Does (refused 6 0) numbers marks
+  pub does-unequal : (n ≡ length grounds → ⊥) → Does (refused 6 0) numbers marks
   does-unequal m = does-refuse (stages.six.1 m) (λ z. omega arith)
 
-  module _ (even : n ≡ length ground) where
+  module _ (even : n ≡ length grounds) where
     pub does-empty : n ≡ 0 → Does (refused 14 0) numbers marks
     does-empty z = does-refuse (stages.fourteen.1 (even, z)) (λ z. omega arith)
 
@@ -121,7 +121,7 @@ module _ (level : List Float) (ground numbers marks : List ℕ) where
         : (n ≡ 0 → ⊥) → (length numbers < n) ⊎ (length marks < n) → Does (refused 19 0) numbers marks
     does-short some s = does-refuse (stages.nineteen.1 (even, omega arith, room-short s)) (λ z. omega arith)
 
-  module _ (r : Roomy level ground numbers marks) where
+  module _ (r : Roomy level grounds numbers marks) where
     -- at the earliest fault, where there is one
     pub does-stop
         : {t : Turning} → first_fault faults n < n → t ≡ refused (faults (first_fault faults n)) (first_fault faults n) →
@@ -139,24 +139,24 @@ module _ (level : List Float) (ground numbers marks : List ℕ) where
 
   -- ---- whether there is a fault, by the marks and the readings by themselves
 
-  none-fine : NoFaultBefore faults n → (j : ℕ) → j < n → FineAt level ground j
-  none-fine b j h = fault-0 (get_or level j nan) (get_or ground j 0) (b j h)
+  none-fine : NoFaultBefore faults n → (j : ℕ) → j < n → FineAt level grounds j
+  none-fine b j h = fault-0 (get_or level j nan) (get_or grounds j 0) (b j h)
 
-  module _ (even : n ≡ length ground) where
-    pub stops-by-mark : every (marked_at ground) (length ground) ≡ false → first_fault faults n < n
+  module _ (even : n ≡ length grounds) where
+    pub stops-by-mark : every (marked_at grounds) (length grounds) ≡ false → first_fault faults n < n
     stops-by-mark e =
         fault-ahead faults n (λ b.
-        let all = every-of (marked_at ground) (length ground) (λ j h.
-        le-leb (get_or ground j 0) 1 (none-fine b j (omega arith)).0) in
+        let all = every-of (marked_at grounds) (length grounds) (λ j h.
+        le-leb (get_or grounds j 0) 1 (none-fine b j (omega arith)).0) in
         false≢true (sym e ∙ all))
 
     pub stops-by-reading : every (is_whole_at level) n ≡ false → first_fault faults n < n
     stops-by-reading e = fault-ahead faults n (λ b. false≢true (sym e ∙ every-of (is_whole_at level) n (λ j h. (none-fine b j h).1)))
 
     pub goes-on
-        : every (marked_at ground) (length ground) ≡ true → every (is_whole_at level) n ≡ true → NoFaultBefore faults n
+        : every (marked_at grounds) (length grounds) ≡ true → every (is_whole_at level) n ≡ true → NoFaultBefore faults n
     goes-on m w j h =
-        let k : j < length ground = omega arith in
-        fine (get_or level j nan) (get_or ground j 0)
-        (leb-true (get_or ground j 0) 1 (every-at (marked_at ground) (length ground) j m k))
+        let k : j < length grounds = omega arith in
+        fine (get_or level j nan) (get_or grounds j 0)
+        (leb-true (get_or grounds j 0) 1 (every-at (marked_at grounds) (length grounds) j m k))
         (every-at (is_whole_at level) n j w h)

@@ -18,8 +18,8 @@ answer-unique =
     ])
 
 pub turn-unique
-    : (level : List Float) (ground numbers marks : List ℕ) (a b : Turn) (ns ms ns' ms' : List ℕ) →
-    Turns level ground numbers marks a ns ms → Turns level ground numbers marks b ns' ms' →
+    : (level : List Float) (grounds numbers marks : List ℕ) (a b : Turn) (ns ms ns' ms' : List ℕ) →
+    Turns level grounds numbers marks a ns ms → Turns level grounds numbers marks b ns' ms' →
     (a ≡ b) × (ns ≡ ns') × (ms ≡ ms')
-turn-unique level ground numbers marks a b ns ms ns' ms' g h =
+turn-unique level grounds numbers marks a b ns ms ns' ms' g h =
     (answer-unique a b (g.0 ∙ sym h.0), g.1 ∙ sym h.1, g.2 ∙ sym h.2)

@@ -12,7 +12,7 @@ turned (Refused r place) = refused (number_of r) place
 
 -- the whole contract: an answer, and what the two lent lists hold afterwards
 abbrev pub Turns : List Float → List ℕ → List ℕ → List ℕ → Turn → List ℕ → List ℕ → Type 0
-Turns level ground numbers marks r numbers' marks' =
-    (turned r ≡ turning_of level ground numbers marks)
-    × (numbers' ≡ numbers_after level ground numbers marks)
-    × (marks' ≡ marks_after level ground numbers marks)
+Turns level grounds numbers marks r numbers' marks' =
+    (turned r ≡ turning_of level grounds numbers marks)
+    × (numbers' ≡ numbers_after level grounds numbers marks)
+    × (marks' ≡ marks_after level grounds numbers marks)

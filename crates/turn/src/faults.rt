@@ -36,18 +36,18 @@ fn fault(x: f32, mark: u8) -> Refusal
 }
 
 // The refusal at the earliest place with a fault.
-pub(crate) fn refuse(level: &[f32], ground: &[u8]) -> Turn
-    requires level_len { length level.now ≡ length ground.now }
-    requires level_in_bounds { first_fault (fault_at level.now ground.now) (length level.now) < length level.now }
+pub(crate) fn refuse(level: &[f32], grounds: &[u8]) -> Turn
+    requires level_len { length level.now ≡ length grounds.now }
+    requires level_in_bounds { first_fault (fault_at level.now grounds.now) (length level.now) < length level.now }
     ensures { turned result ≡
         refused
-        (fault_at level.now ground.now
-        (first_fault (fault_at level.now ground.now) (length level.now)))
-        (first_fault (fault_at level.now ground.now) (length level.now)) }
+        (fault_at level.now grounds.now
+        (first_fault (fault_at level.now grounds.now) (length level.now)))
+        (first_fault (fault_at level.now grounds.now) (length level.now)) }
 {
     let mut place = 0;
-    while faultless(level[place], ground[place]) {
+    while faultless(level[place], grounds[place]) {
         place = place + 1;
     }
-    Turn::Refused(fault(level[place], ground[place]), place as u64)
+    Turn::Refused(fault(level[place], grounds[place]), place as u64)
 }

@@ -38,14 +38,14 @@ fn put_unmarked(count: usize, marks: &mut [u8])
 
 // The field whose numbers are the level's readings, all marks 0. The lists' lengths come first, then the room, then the
 // places; the lists stay on refusal.
-pub fn turn(level: &[f32], ground: &[u8], numbers: &mut [u64], marks: &mut [u8]) -> Turn
-    ensures result_value { turned result ≡ turning_of level.now ground.now numbers.old marks.old }
+pub fn turn(level: &[f32], grounds: &[u8], numbers: &mut [u64], marks: &mut [u8]) -> Turn
+    ensures result_value { turned result ≡ turning_of level.now grounds.now numbers.old marks.old }
     ensures numbers_new { numbers.new ≡
-        numbers_after level.now ground.now numbers.old marks.old }
+        numbers_after level.now grounds.now numbers.old marks.old }
     ensures marks_new { marks.new ≡
-        marks_after level.now ground.now numbers.old marks.old }
+        marks_after level.now grounds.now numbers.old marks.old }
 {
-    if level.len() != ground.len() {
+    if level.len() != grounds.len() {
         return Turn::Refused(Refusal::LengthsDiffer, 0);
     }
     if level.len() == 0 {
@@ -57,11 +57,11 @@ pub fn turn(level: &[f32], ground: &[u8], numbers: &mut [u64], marks: &mut [u8])
     if marks.len() < level.len() {
         return Turn::Refused(Refusal::ListTooShort, 0);
     }
-    if !all_marked(ground) {
-        return refuse(level, ground);
+    if !all_marked(grounds) {
+        return refuse(level, grounds);
     }
     if !all_whole(level) {
-        return refuse(level, ground);
+        return refuse(level, grounds);
     }
     put_values(level, numbers);
     put_unmarked(level.len(), marks);

@@ -2,7 +2,7 @@
 use checked::refusal::Refusal;
 
 // The field stands in the lent lists; or why not, and where.
-#[derive(Drop)]
+#[derive(Clone, Copy)]
 pub enum Turn {
     Field,
     Refused(Refusal, u64),

@@ -1,3 +1,5 @@
 // The block writer: `write::write` makes blocks of a field.
+#![tactic(auto)]
+
 pub mod types;
 pub mod write;

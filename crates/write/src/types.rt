@@ -2,7 +2,7 @@
 use checked::refusal::Refusal;
 
 // The length written in bytes; or why nothing is, and where.
-#[derive(Drop)]
+#[derive(Clone, Copy)]
 pub enum Write {
     Length(u64),
     Refused(Refusal, u64),
