@@ -4,7 +4,7 @@ use mathlib.Core.Path.{◌≡◌, refl}
 use Rattle.checked.specs.declared.types.Checked64.TheVariants as c64
 use Rattle.checked.specs.Value.{Value}
 use Rattle.checked.specs.Paper.{value_in}
-use Rattle.checked.proofs.Unique.{one, gives, refuses, told-apart}
+use Rattle.checked.proofs.Unique.{one, Told, gives, refuses, told-apart}
 use Rattle.narrow.specs.declared.types.Checked8.{Checked8}
 use Rattle.narrow.specs.declared.types.Checked8.TheVariants as c8
 use Rattle.narrow.specs.declared.types.Answer8.{Answer8}
@@ -39,13 +39,15 @@ back8 = elim [ c64.Fits n ↦ c8.Fits n | c64.Overflowed ↦ c8.Overflowed ]
 pub value8-unique : (x y : Checked8) → value8 x ≡ value8 y → x ≡ y
 value8-unique = one value8 back8 (elim [ c8.Fits n ↦ refl | c8.Overflowed ↦ refl ])
 
+paper8-told
+    : (x : Answer8) →
+    Told (λ p. p.code) (λ p. a8.Value (back8 (value_in p))) (λ p. a8.Refused) paper8 x
+paper8-told (a8.Value (c8.Fits n)) = gives refl refl
+paper8-told (a8.Value c8.Overflowed) = gives refl refl
+paper8-told (a8.Refused r) = refuses r refl refl
+
 pub paper8-unique : (x y : Answer8) → paper8 x ≡ paper8 y → x ≡ y
-paper8-unique =
-    told-apart (λ p. p.code) (λ p. a8.Value (back8 (value_in p))) (λ p. a8.Refused) paper8
-    (elim [
-      | a8.Value c ↦ elim c [ c8.Fits n ↦ gives refl refl | c8.Overflowed ↦ gives refl refl ]
-      | a8.Refused r ↦ refuses r refl refl
-    ])
+paper8-unique = told-apart (λ p. p.code) (λ p. a8.Value (back8 (value_in p))) (λ p. a8.Refused) paper8 paper8-told
 
 pub plain8-unique : (x y : Plain8) → plain8 x ≡ plain8 y → x ≡ y
 plain8-unique =
@@ -63,13 +65,15 @@ back16 = elim [ c64.Fits n ↦ c16.Fits n | c64.Overflowed ↦ c16.Overflowed ]
 pub value16-unique : (x y : Checked16) → value16 x ≡ value16 y → x ≡ y
 value16-unique = one value16 back16 (elim [ c16.Fits n ↦ refl | c16.Overflowed ↦ refl ])
 
+paper16-told
+    : (x : Answer16) →
+    Told (λ p. p.code) (λ p. a16.Value (back16 (value_in p))) (λ p. a16.Refused) paper16 x
+paper16-told (a16.Value (c16.Fits n)) = gives refl refl
+paper16-told (a16.Value c16.Overflowed) = gives refl refl
+paper16-told (a16.Refused r) = refuses r refl refl
+
 pub paper16-unique : (x y : Answer16) → paper16 x ≡ paper16 y → x ≡ y
-paper16-unique =
-    told-apart (λ p. p.code) (λ p. a16.Value (back16 (value_in p))) (λ p. a16.Refused) paper16
-    (elim [
-      | a16.Value c ↦ elim c [ c16.Fits n ↦ gives refl refl | c16.Overflowed ↦ gives refl refl ]
-      | a16.Refused r ↦ refuses r refl refl
-    ])
+paper16-unique = told-apart (λ p. p.code) (λ p. a16.Value (back16 (value_in p))) (λ p. a16.Refused) paper16 paper16-told
 
 pub plain16-unique : (x y : Plain16) → plain16 x ≡ plain16 y → x ≡ y
 plain16-unique =
@@ -87,13 +91,15 @@ back32 = elim [ c64.Fits n ↦ c32.Fits n | c64.Overflowed ↦ c32.Overflowed ]
 pub value32-unique : (x y : Checked32) → value32 x ≡ value32 y → x ≡ y
 value32-unique = one value32 back32 (elim [ c32.Fits n ↦ refl | c32.Overflowed ↦ refl ])
 
+paper32-told
+    : (x : Answer32) →
+    Told (λ p. p.code) (λ p. a32.Value (back32 (value_in p))) (λ p. a32.Refused) paper32 x
+paper32-told (a32.Value (c32.Fits n)) = gives refl refl
+paper32-told (a32.Value c32.Overflowed) = gives refl refl
+paper32-told (a32.Refused r) = refuses r refl refl
+
 pub paper32-unique : (x y : Answer32) → paper32 x ≡ paper32 y → x ≡ y
-paper32-unique =
-    told-apart (λ p. p.code) (λ p. a32.Value (back32 (value_in p))) (λ p. a32.Refused) paper32
-    (elim [
-      | a32.Value c ↦ elim c [ c32.Fits n ↦ gives refl refl | c32.Overflowed ↦ gives refl refl ]
-      | a32.Refused r ↦ refuses r refl refl
-    ])
+paper32-unique = told-apart (λ p. p.code) (λ p. a32.Value (back32 (value_in p))) (λ p. a32.Refused) paper32 paper32-told
 
 pub plain32-unique : (x y : Plain32) → plain32 x ≡ plain32 y → x ≡ y
 plain32-unique =

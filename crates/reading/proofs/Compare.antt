@@ -127,11 +127,19 @@ module _ (c : ℕ) (some : 0 < c) where
   unfolding lt
   lt-finite (fin u m e) (fin v n d) s t a b (p, f) (q, g) =
       signs-below m e n d a b f g u v ∙ ap₂ (λ u v. below u a v b) p q
+  lt-finite lib.Ieee.nan y s t a b x3 _ = elim x3 [ ]
+  lt-finite (inf _) y s t a b x5 _ = elim x5 [ ]
+  lt-finite (fin u m e) lib.Ieee.nan s t a b _ x8 = elim x8 [ ]
+  lt-finite (fin u m e) (inf _) s t a b _ x10 = elim x10 [ ]
 
   eq-finite : (x y : Float) (s t : Bool) (a b : ℕ) → HasValue x s a c → HasValue y t b c → eq x y ≡ level s a t b
   unfolding eq
   eq-finite (fin u m e) (fin v n d) s t a b (p, f) (q, g) =
       signs-level m e n d a b f g u v ∙ ap₂ (λ u v. level u a v b) p q
+  eq-finite lib.Ieee.nan y s t a b x3 _ = elim x3 [ ]
+  eq-finite (inf _) y s t a b x5 _ = elim x5 [ ]
+  eq-finite (fin u m e) lib.Ieee.nan s t a b _ x8 = elim x8 [ ]
+  eq-finite (fin u m e) (inf _) s t a b _ x10 = elim x10 [ ]
 
 -- an infinity is larger than every finite float
 module _ (a m : ℕ) (h : a < m) where
@@ -141,6 +149,14 @@ module _ (a m : ℕ) (h : a < m) where
   lt-infinite false true (fin u n e) c v = refl
   lt-infinite true false (fin u n e) c v = sym (lt-ltb 0 (a + m) (omega arith))
   lt-infinite true true (fin u n e) c v = sym (le-ltb m a (omega arith))
+  lt-infinite false false lib.Ieee.nan c v = elim v [ ]
+  lt-infinite false false (inf _) c v = elim v [ ]
+  lt-infinite false true lib.Ieee.nan c v = elim v [ ]
+  lt-infinite false true (inf _) c v = elim v [ ]
+  lt-infinite true false lib.Ieee.nan c v = elim v [ ]
+  lt-infinite true false (inf _) c v = elim v [ ]
+  lt-infinite true true lib.Ieee.nan c v = elim v [ ]
+  lt-infinite true true (inf _) c v = elim v [ ]
 
   infinite-lt : (s t : Bool) (x : Float) (c : ℕ) → HasValue x t a c → lt (inf s) x ≡ below s m t a
   unfolding lt
@@ -148,14 +164,26 @@ module _ (a m : ℕ) (h : a < m) where
   infinite-lt false true (fin u n e) c v = refl
   infinite-lt true false (fin u n e) c v = sym (lt-ltb 0 (m + a) (omega arith))
   infinite-lt true true (fin u n e) c v = sym (lt-ltb a m h)
+  infinite-lt false false lib.Ieee.nan c v = elim v [ ]
+  infinite-lt false false (inf _) c v = elim v [ ]
+  infinite-lt false true lib.Ieee.nan c v = elim v [ ]
+  infinite-lt false true (inf _) c v = elim v [ ]
+  infinite-lt true false lib.Ieee.nan c v = elim v [ ]
+  infinite-lt true false (inf _) c v = elim v [ ]
+  infinite-lt true true lib.Ieee.nan c v = elim v [ ]
+  infinite-lt true true (inf _) c v = elim v [ ]
 
   eq-infinite : (s t : Bool) (x : Float) (c : ℕ) → HasValue x s a c → eq x (inf t) ≡ level s a t m
   unfolding eq
   eq-infinite s t (fin u n e) c v = sym (ap (λ r. r && (beq s t || eqb a 0)) (ne_eqb a m (λ e. omega arith)))
+  eq-infinite s t lib.Ieee.nan c v = elim v [ ]
+  eq-infinite s t (inf _) c v = elim v [ ]
 
   infinite-eq : (s t : Bool) (x : Float) (c : ℕ) → HasValue x t a c → eq (inf s) x ≡ level s m t a
   unfolding eq
   infinite-eq s t (fin u n e) c v = sym (ap (λ r. r && (beq s t || eqb m 0)) (ne_eqb m a (λ e. omega arith)))
+  infinite-eq s t lib.Ieee.nan c v = elim v [ ]
+  infinite-eq s t (inf _) c v = elim v [ ]
 
 module _ (m : ℕ) (h : 0 < m) where
   infinities-lt : (s t : Bool) → lt (inf s) (inf t) ≡ below s m t m

@@ -1,0 +1,9 @@
+-- `bytes::long` meets its contract: a number from its two words.
+-- Assumes nothing.
+use native.Mathlib.Omega.{arith}
+use Rattle.little.specs.Bytes.{little}
+use Rattle.little.proofs.bytes.long.Goals as goal
+
+pub returns : goal.returns
+unfolding little
+returns c = omega arith

@@ -1,0 +1,9 @@
+-- `bytes::word` meets its contract: a number from its two halves.
+-- Assumes nothing.
+use native.Mathlib.Omega.{arith}
+use Rattle.little.specs.Bytes.{little}
+use Rattle.little.proofs.bytes.word.Goals as goal
+
+pub returns : goal.returns
+unfolding little
+returns c = omega arith
