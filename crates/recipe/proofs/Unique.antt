@@ -8,7 +8,7 @@ use lib.Dec.{eqb}
 use lib.ListN.{get_or}
 use Rattle.checked.specs.declared.types.Checked64.TheVariants.{Fits, Overflowed}
 use Rattle.checked.specs.Paper.{Paper, value_in}
-use Rattle.checked.proofs.Unique.{one, back, gives, refuses, told-back}
+use Rattle.checked.proofs.Unique.{one, back, gives, refuses, told-back, Told}
 use Rattle.steps.specs.declared.types.Phase.{Phase}
 use Rattle.steps.specs.declared.types.Phase.TheVariants.{Between, InPower, InLogarithm}
 use Rattle.recipe.specs.declared.types.Answer.{Answer}
@@ -21,13 +21,16 @@ use Rattle.recipe.proofs.Places.{value-back}
 abbrev answer_back : Paper → Answer
 answer_back = back (λ p. p.code) (λ p. answer.Value (value_in p)) (λ p r. answer.Refused r p.place)
 
+answer-told
+    : (a : Answer) →
+    Told (λ p. p.code) (λ p. answer.Value (value_in p)) (λ p r. answer.Refused r p.place) answer_of a
+answer-told (answer.Value (Fits n)) = gives refl refl
+answer-told (answer.Value Overflowed) = gives refl refl
+answer-told (answer.Refused r i) = refuses r refl refl
+
 answer-back : (a : Answer) → answer_back (answer_of a) ≡ a
 answer-back =
-    told-back (λ p. p.code) (λ p. answer.Value (value_in p)) (λ p r. answer.Refused r p.place) answer_of
-    (elim [
-      | answer.Value v ↦ elim v [ Fits n ↦ gives refl refl | Overflowed ↦ gives refl refl ]
-      | answer.Refused r i ↦ refuses r refl refl
-    ])
+    told-back (λ p. p.code) (λ p. answer.Value (value_in p)) (λ p r. answer.Refused r p.place) answer_of answer-told
 
 phase_back : List ℕ → Phase
 phase_back ns =

@@ -6,7 +6,6 @@ pub mod Turns
 pub mod Noted
 pub mod Filling
 pub mod Fields
-pub mod Again
 pub mod After
 pub mod Unique
 pub mod Promises

@@ -1,0 +1,25 @@
+-- `copy::copy_marks` meets its contract. The invariant: the first i places are written over, and nothing past them.
+-- Assumes nothing.
+use mathlib.Core.Path.{◌≡◌, refl, sym}
+use Prim.Native.Nat.{◌-◌, ◌≤◌}
+use native.Mathlib.Omega.{arith}
+use borrow.Author.Rules.{rules}
+use lib.ListN.{length, length-set}
+use Rattle.places.specs.Places.{over}
+use Rattle.places.proofs.Tables.{over-none}
+use Rattle.layout.specs.Layout.{mark}
+use Rattle.places.proofs.Copies.{copy-turn, copy-end}
+use Rattle.block.proofs.copy.copy_marks.Goals as goal
+
+pub loop-i-init : goal.loop-i-init
+loop-i-init c = (sym (over-none (mark c.args.b.now) c.args.marks.now), refl, omega arith)
+
+pub loop-i-preserved : goal.loop-i-preserved
+loop-i-preserved c =
+    let g = c.args in
+    let l = c.loop-i in (
+      copy-turn (mark g.b.now) g.marks.now l.marks l.i l.invariant.0
+          (mark g.b.now l.i) refl (omega arith),
+      simp length-set l.invariant.1,
+      omega arith,
+    )

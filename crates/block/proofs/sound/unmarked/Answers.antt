@@ -1,0 +1,24 @@
+-- `sound::unmarked` meets its contract.
+-- Assumes nothing.
+use mathlib.Core.Path.{ap, sym, ◌∙◌}
+use mathlib.Core.Bool.{◌&&◌}
+use borrow.Author.Rules.{rules}
+use borrow.Author.Tests.{eq-eqb, ne_eqb}
+use lib.ListN.{length}
+use Rattle.little.specs.Zeros.{zeros}
+use Rattle.layout.specs.Editions.{block_length, marks_at, one}
+use Rattle.block.specs.Marks.{no_marks}
+use Rattle.block.proofs.sound.unmarked.Goals as goal
+
+pub returns-then-block-ne-BLOCK_LENGTH : goal.returns-then-block-ne-BLOCK_LENGTH
+unfolding no_marks
+returns-then-block-ne-BLOCK_LENGTH c =
+    let b = c.args.block.now in
+    sym (ap (λ t. t && zeros marks_at one.past b) (ne_eqb (length b) block_length c.if-block-ne-BLOCK_LENGTH.true))
+
+pub returns : goal.returns
+unfolding no_marks
+returns c =
+    let b = c.args.block.now in
+    c.all_zero.ensures
+    ∙ sym (ap (λ t. t && zeros marks_at one.past b) (eq-eqb (length b) block_length c.if-block-ne-BLOCK_LENGTH.false))
