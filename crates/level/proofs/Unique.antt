@@ -5,7 +5,6 @@ use lib.Dec.{T}
 use lib.Ieee.{binary32, fits, of_bits}
 use Rattle.checked.proofs.Unique.{Told, gives, refuses, both-told-apart}
 use Rattle.reading.proofs.Order.{back-from-bits}
-use Rattle.level.specs.declared.types.Extent.{Extent}
 use Rattle.level.specs.declared.types.LevelScan.{LevelScan}
 use Rattle.level.specs.declared.types.LevelScan.TheVariants.{Ranged, Refused}
 use Rattle.level.specs.Scan.{Scanned}

@@ -1,17 +1,14 @@
 -- `extent::first_zero` meets its contract. The invariant: no place passed has a zero.
 -- Assumes nothing.
 use mathlib.Core.Path.{ap, sym, ◌∙◌}
-use Prim.Native.Nat.{◌≤◌, ◌-◌}
 use native.Mathlib.Omega.{arith}
 use borrow.Author.Tests.{not-true, not-false}
 use lib.Dec.{eqb}
-use lib.ListN.{length, get_or}
+use lib.ListN.{get_or}
 use lib.Ieee.{nan}
 use Rattle.reading.specs.Order.{rank_of}
 use Rattle.level.specs.Extent.{bits_at}
-use Rattle.level.specs.Ranks.{place_of_rank}
 use Rattle.level.proofs.Parts.{place-from, rank-passed, rank-found, nonzero-told}
-use borrow.Author.Rules.{rules}
 use Rattle.level.proofs.extent.first_zero.Goals as goal
 
 pub loop-place-init : goal.loop-place-init
@@ -19,22 +16,20 @@ loop-place-init c = let g = c.args in (omega arith, place-from g.level.now g.fro
 
 pub loop-place-preserved : goal.loop-place-preserved
 loop-place-preserved c =
-    let l = c in
-    let g = l.args in
+    let g = c.args in
     let xs = g.level.now in
-    let i = l.loop-place.place in
-    let told = nonzero-told (get_or xs i nan) (c.shared_slice_known-1.given i) in
+    let i = c.loop-place.place in
+    let told = nonzero-told (get_or xs i nan) (c.type_inv.level i) in
     let n = not-true (eqb (rank_of (bits_at xs i)) 2147483648) (sym told ∙ c.loop-place-test.true) in
-    let upto = l.loop-place.invariant.1 in
-    (omega arith, rank-passed xs g.from g.to 2147483648 l.requires.1 i l.loop-place.invariant.0 upto n)
+    let upto = c.loop-place.invariant.1 in
+    (omega arith, rank-passed xs g.from g.to 2147483648 c.requires.to_bound i c.loop-place.invariant.0 upto n)
 
 pub returns : goal.returns
 returns c =
-    let l = c in
-    let g = l.args in
+    let g = c.args in
     let xs = g.level.now in
-    let i = l.loop-place.place in
-    let told = nonzero-told (get_or xs i nan) (c.shared_slice_known-1.given i) in
+    let i = c.loop-place.place in
+    let told = nonzero-told (get_or xs i nan) (c.type_inv.level i) in
     let e = not-false (eqb (rank_of (bits_at xs i)) 2147483648) (sym told ∙ c.loop-place-test.false) in
     ap (λ i. get_or xs i nan)
-    (rank-found xs g.from g.to 2147483648 l.requires.1 i l.loop-place.invariant.0 l.loop-place.invariant.1 e)
+    (rank-found xs g.from g.to 2147483648 c.requires.to_bound i c.loop-place.invariant.0 c.loop-place.invariant.1 e)

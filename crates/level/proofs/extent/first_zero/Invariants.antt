@@ -1,17 +1,8 @@
 -- `extent::first_zero` meets its contract. The invariant: no place passed has a zero.
 -- Assumes nothing.
-use mathlib.Core.Path.{ap, sym, ◌∙◌}
 use Prim.Native.Nat.{◌≤◌, ◌-◌}
-use native.Mathlib.Omega.{arith}
-use borrow.Author.Tests.{not-true, not-false}
-use lib.Dec.{eqb}
-use lib.ListN.{length, get_or}
-use lib.Ieee.{nan}
-use Rattle.reading.specs.Order.{rank_of}
-use Rattle.level.specs.Extent.{bits_at}
+use lib.ListN.{length}
 use Rattle.level.specs.Ranks.{place_of_rank}
-use Rattle.level.proofs.Parts.{place-from, rank-passed, rank-found, nonzero-told}
-use borrow.Author.Rules.{rules}
 use Rattle.level.proofs.extent.first_zero.Given as goal
 
 abbrev pub invariant-loop-place : goal.invariant-loop-place

@@ -9,7 +9,6 @@ use lib.Dec.{T}
 use lib.Ieee.{binary32, of_bits, nan_bits}
 use Rattle.reading.specs.Order.{bits_of_rank}
 use Rattle.reading.proofs.Order.{upper-bits, lower-bits}
-use borrow.Author.Rules.{rules}
 use Rattle.level.proofs.extent.float_of.Goals.{Else-rank-ge-ZEROS}
 use Rattle.level.proofs.extent.float_of.Goals as goal
 
@@ -22,7 +21,8 @@ below-is c = let e = lower-bits c.args.rank c.if-rank-ge-ZEROS.false in omega ar
 pub float_from_bits-result : goal.float_from_bits-result
 float_from_bits-result c =
     let r = c.args.rank in
-    number-from (r - 2147483648) (sym (ap (nan_bits binary32) (upper-bits r c.if-rank-ge-ZEROS.true)) ∙ c.requires.rank_value)
+    number-from (r - 2147483648)
+    (sym (ap (nan_bits binary32) (upper-bits r c.if-rank-ge-ZEROS.true)) ∙ c.requires.rank_value)
 
 pub returns-then-rank-ge-ZEROS : goal.returns-then-rank-ge-ZEROS
 returns-then-rank-ge-ZEROS c = sym (ap (of_bits binary32) (upper-bits c.args.rank c.if-rank-ge-ZEROS.true))
@@ -30,7 +30,8 @@ returns-then-rank-ge-ZEROS c = sym (ap (of_bits binary32) (upper-bits c.args.ran
 pub float_from_bits-result-2 : goal.float_from_bits-result-2
 float_from_bits-result-2 c =
     let r = c.args.rank in
-    number-from (4294967295 - r + 1) (sym (ap (nan_bits binary32) (below-is (goal.at.float_from_bits-result-2 c).Else-rank-ge-ZEROS)) ∙ c.requires.rank_value)
+    number-from (4294967295 - r + 1)
+    (sym (ap (nan_bits binary32) (below-is (goal.at.float_from_bits-result-2 c).Else-rank-ge-ZEROS)) ∙ c.requires.rank_value)
 
 pub returns : goal.returns
 returns c = sym (ap (of_bits binary32) (below-is (goal.at.returns c).Else-rank-ge-ZEROS))

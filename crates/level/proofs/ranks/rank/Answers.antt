@@ -1,14 +1,12 @@
 -- `ranks::rank` meets its contract.
 -- Assumes nothing.
-use mathlib.Core.Path.{ap, sym}
-use mathlib.Core.Bool.{not}
+use mathlib.Core.Path.{sym}
 use Prim.Native.Nat.{◌<◌}
 use native.Mathlib.Omega.{arith}
 use denote.Floats.{passes}
-use lib.Ieee.{binary32, fits, is_nan}
+use lib.Ieee.{binary32, fits}
 use Rattle.reading.specs.Order.{bits_of}
 use Rattle.reading.proofs.Order.{bits-below, signed-rank, unsigned-rank}
-use borrow.Author.Rules.{rules}
 use Rattle.level.proofs.ranks.rank.Goals.{Then-bits-ge2147483648}
 use Rattle.level.proofs.ranks.rank.Goals as goal
 
@@ -20,7 +18,8 @@ overflow_sub-result c = omega (arith, below (goal.at.overflow_sub-result c).Then
 
 pub returns-then-bits-ge2147483648 : goal.returns-then-bits-ge2147483648
 returns-then-bits-ge2147483648 c =
-    let e = signed-rank (bits_of c.args.x) c.if-bits-ge2147483648.true in omega (arith, below (goal.at.returns-then-bits-ge2147483648 c).Then-bits-ge2147483648)
+    let e = signed-rank (bits_of c.args.x) c.if-bits-ge2147483648.true in
+    omega (arith, below (goal.at.returns-then-bits-ge2147483648 c).Then-bits-ge2147483648)
 
 pub returns : goal.returns
 returns c = sym (unsigned-rank (bits_of c.args.x) c.if-bits-ge2147483648.false)

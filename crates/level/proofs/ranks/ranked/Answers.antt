@@ -1,65 +1,56 @@
 -- `ranks::ranked` meets its contract. The invariant: these are the ranks up to place i.
 -- Assumes nothing.
-use mathlib.Core.Path.{◌≡◌, ap, sym, ◌∙◌, subst}
-use mathlib.Core.Logic.{inl, inr}
+use mathlib.Core.Path.{◌≡◌, ap, sym, ◌∙◌}
+use mathlib.Core.Logic.{◌⊎◌, inl, inr}
 use mathlib.Core.Bool.{true}
-use Prim.Native.Nat.{ℕ, ◌-◌, ◌≤◌}
+use Prim.Native.Nat.{ℕ}
 use native.Mathlib.Omega.{arith}
 use lib.ListN.{get_or}
 use lib.Ieee.{Float, nan, is_nan}
+use Rattle.reading.specs.declared.types.Reading.{Reading}
 use Rattle.reading.specs.declared.types.Reading.TheVariants.{Air, Ground}
-use Rattle.reading.specs.Reading.{usable}
-use Rattle.reading.specs.Order.{rank_of, rank}
+use Rattle.reading.specs.Reading.{usable, reading_of}
+use Rattle.reading.specs.Order.{rank}
 use Rattle.reading.proofs.Order.{no-nan}
-use Rattle.level.specs.Ranks.{RankedTo}
 use Rattle.reading.proofs.Told.{number-is, unusable-told}
-use Rattle.level.proofs.Turns.{RankedAs, ranked-start, ranked-turn}
-use borrow.Author.Rules.{rules}
-use Rattle.level.proofs.ranks.ranked.Goals.{After-seen, In-Air, Joined-seen}
+use Rattle.level.proofs.Turns.{RankedAs, ranked-turn}
+use Rattle.level.proofs.ranks.ranked.Goals.{Joined-seen, in-Unusable, in-Air2}
 use Rattle.level.proofs.ranks.ranked.Goals as goal
 
-abbrev reading : After-seen → Float
-reading c =
-    let l = c in
-    get_or l.args.level.now l.loop-i.i nan
-
-abbrev mark_of : After-seen → ℕ
-mark_of c =
-    let l = c in
-    get_or l.args.grounds.now l.loop-i.i 0
-
+-- what was seen as a number is usable, and that number
 seen-number
-    : (c : In-Air) →
-    (usable (reading c.before) ≡ true) × (c.in-Air.x ≡ reading c.before)
-seen-number c =
-    let s = c in
-    number-is (reading s) (mark_of s) c.in-Air.x
-    (elim c.in-Air.match-seen-branch [
-      | inl a ↦ inl (sym s.seen.ensures ∙ a.1.given.1 ∙ ap Air (sym a.3))
-      | inr a ↦ inr (sym s.seen.ensures ∙ a.1.given.1 ∙ ap Ground (sym a.3))
+    : (x : Float) (mark : ℕ) {seen : Reading} → seen ≡ reading_of x mark →
+    (y : Float) → (seen ≡ Air y) ⊎ (seen ≡ Ground y) → (usable x ≡ true) × (y ≡ x)
+seen-number x mark e y is =
+    number-is x mark y
+    (elim is [
+      | inl a ↦ inl (sym e ∙ a)
+      | inr a ↦ inr (sym e ∙ a)
     ])
 
-rank-seen : (c : Joined-seen) → RankedAs (reading c.before) c.match-seen.rank
+rank-seen : (c : Joined-seen) → RankedAs (get_or c.args.level.now c.loop-i.i nan) c.match-seen.rank
 rank-seen c =
-    let s = c in
+    let reading = get_or c.args.level.now c.loop-i.i nan in
+    let mark = get_or c.args.grounds.now c.loop-i.i 0 in
     elim c.match-seen.branch [
-      | inl a ↦ inl (unusable-told (reading s) (mark_of s) (sym s.seen.ensures ∙ a.1.given.1), a.2)
-      | inr a ↦
-          let n = seen-number record { before = s; match = a.0 } in
-          inr (n.0, a.2 ∙ a.1.ensures ∙ ap rank n.1)
+      | in-Unusable w ↦ inl (unusable-told reading mark (sym c.seen.ensures ∙ w.in-Unusable.is), w.rank-is)
+      | in-Air2 w ↦
+          let n = seen-number reading mark c.seen.ensures w.in-Air.x w.in-Air.is in
+          inr (n.0, w.rank-is ∙ w.rank-rank.ensures ∙ ap rank n.1)
     ]
 
 pub rank-rank-requires : goal.rank-rank-requires
-rank-rank-requires c = let n = seen-number (goal.at.rank-rank-requires c).In-Air in ap is_nan n.1 ∙ no-nan (reading (goal.at.rank-rank-requires c).After-seen) n.0
+rank-rank-requires c =
+    let reading = get_or c.args.level.now c.loop-i.i nan in
+    let mark = get_or c.args.grounds.now c.loop-i.i 0 in
+    let n = seen-number reading mark c.seen.ensures c.in-Air.x c.in-Air.is in ap is_nan n.1 ∙ no-nan reading n.0
 
 pub loop-i-preserved : goal.loop-i-preserved
 loop-i-preserved c =
-    let m = c in
-    let l = m in
-    let g = l.args in (
-      ranked-turn g.level.now g.from l.loop-i.i l.loop-i.least l.loop-i.greatest m.match-seen.rank
-          c.lesser-least.result c.larger-greatest.result l.loop-i.invariant.1 l.loop-i.invariant.0 (rank-seen (goal.at.loop-i-preserved m).Joined-seen)
-          c.lesser-least.ensures c.larger-greatest.ensures,
+    let g = c.args in (
+      ranked-turn g.level.now g.from c.loop-i.i c.loop-i.least c.loop-i.greatest c.match-seen.rank
+          c.lesser-least.result c.larger-greatest.result c.loop-i.invariant.1 c.loop-i.invariant.0
+          (rank-seen (goal.at.loop-i-preserved c).Joined-seen) c.lesser-least.ensures c.larger-greatest.ensures,
       omega arith,
       omega arith,
     )
