@@ -50,11 +50,13 @@ module _ (level : List Float) (grounds : List ℕ) (extent : List Float) (lent :
       only : answer_code told lent ≡ 19 → (length lent < 1) ⊎ (length extent < 2)
       only e =
           ⊎_elim inl
-          (λ c.
+          (λ (c : answer.code ≡ 19).
           elim (dec_lt (length extent) 2) [
             | yes h ↦ inr h
             | no h ↦
-                let d = sym (ap (λ s. s.code) (room-for-extent (scan_of level grounds) extent (omega arith))) ∙ c in
+                let w : 2 ≤ length extent = omega arith in
+                let d : (scan_of level grounds).code ≡ 19 =
+                sym (ap (λ s. s.code) (room-for-extent (scan_of level grounds) extent w)) ∙ c in
                 absurd
                 (⊎_elim (λ f. omega arith)
                 (⊎_elim (λ f. omega arith) (⊎_elim (λ f. omega arith) (⊎_elim (λ f. omega arith) (λ f. omega arith))))

@@ -1,0 +1,32 @@
+-- `levels::razovinto_level_to_field` meets its contract.
+-- Assumes nothing.
+use mathlib.Core.Path.{refl}
+use Rattle.floats.proofs.Entries.{turn-short-gives, turn-gives}
+use Rattle.floats.proofs.levels.razovinto_level_to_field.Goals as goal
+
+pub returns-then-answer-lt-PLACE_LENGTH : goal.returns-then-answer-lt-PLACE_LENGTH
+returns-then-answer-lt-PLACE_LENGTH c =
+    let g = c.args in
+    let d =
+    turn-short-gives g.level.now g.grounds.now g.numbers.now g.marks.now g.answer.now
+    c.if-answer-lt-PLACE_LENGTH.true c.too_short.ensures in
+    record { value = d.0; answer_new = d.1.0; numbers_new = d.1.1.0; marks_new = d.1.1.1 }
+
+pub returns-in-Field : goal.returns-in-Field
+returns-in-Field c =
+    let g = c.args in
+    let r = c.turn.ensures in
+    let d =
+    turn-gives g.level.now g.grounds.now g.numbers.now g.marks.now g.answer.now
+    c.if-answer-lt-PLACE_LENGTH.false refl refl c.in-Field.is r.result_value r.numbers_new r.marks_new in
+    record { value = d.0; answer_new = d.1.0; numbers_new = d.1.1.0; marks_new = d.1.1.1 }
+
+pub returns-in-Refused : goal.returns-in-Refused
+returns-in-Refused c =
+    let g = c.args in
+    let r = c.turn.ensures in
+    let d =
+    turn-gives g.level.now g.grounds.now g.numbers.now g.marks.now g.answer.now
+    c.if-answer-lt-PLACE_LENGTH.false c.number.ensures refl c.in-Refused.is r.result_value r.numbers_new
+    r.marks_new in
+    record { value = d.0; answer_new = d.1.0; numbers_new = d.1.1.0; marks_new = d.1.1.1 }
