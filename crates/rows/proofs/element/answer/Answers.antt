@@ -2,6 +2,7 @@
 -- Assumes nothing.
 use mathlib.Core.Path.{◌≡◌, ap, sym}
 use Prim.Native.Nat.{ℕ}
+use native.Mathlib.Omega.{arith}
 use Rattle.checked.specs.Paper.{Paper, given}
 use Rattle.shape.specs.Items.{Operation, kind_of, operation, product, quotient, remainder, power, logarithm}
 use Rattle.shape.proofs.Codes.{kind_at}
@@ -45,6 +46,5 @@ returns-in-6 c =
 pub returns-in_default : goal.returns-in_default
 returns-in_default c =
     let o = c.args.operation in
-    sym (no-operation o.kind o.left o.right c.if-kind-lt2.false n.0.0.0.0.1 n.0.0.0.1
-    n.0.0.1
-    n.0.1 n.1)
+    sym (no-operation o.kind o.left o.right c.if-kind-lt2.false (λ e. omega arith) (λ e. omega arith) (λ e. omega arith)
+    (λ e. omega arith) (λ e. omega arith))

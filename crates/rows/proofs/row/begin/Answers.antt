@@ -45,25 +45,25 @@ returns-then-numbers-kinds c =
     let g = c.args in
     let e = c in
     sym ((nineteen g.kinds g.lefts g.rights g.numbers g.marks g.codes).1
-    (as_many (goal.at.returns-then-numbers-kinds e).Else-kinds-rights, few e, inl c.if-numbers-kinds.true))
+    (as_many (goal.at.returns-then-numbers-kinds e).Else-kinds-rights, few (goal.at.returns-then-numbers-kinds e).Else-kinds-gt-MOST, inl c.if-numbers-kinds.true))
 
 pub returns-then-marks-kinds : goal.returns-then-marks-kinds
 returns-then-marks-kinds c =
     let g = c.args in
     let e = c in
     sym ((nineteen g.kinds g.lefts g.rights g.numbers g.marks g.codes).1
-    (as_many (goal.at.returns-then-marks-kinds e).Else-kinds-rights, few e, inr (inl c.if-marks-kinds.true)))
+    (as_many (goal.at.returns-then-marks-kinds e).Else-kinds-rights, few (goal.at.returns-then-marks-kinds e).Else-kinds-gt-MOST, inr (inl c.if-marks-kinds.true)))
 
 pub returns-then-codes-kinds : goal.returns-then-codes-kinds
 returns-then-codes-kinds c =
     let g = c.args in
     let e = c in
     sym ((nineteen g.kinds g.lefts g.rights g.numbers g.marks g.codes).1
-    (as_many (goal.at.returns-then-codes-kinds e).Else-kinds-rights, few e, inr (inr c.if-codes-kinds.true)))
+    (as_many (goal.at.returns-then-codes-kinds e).Else-kinds-rights, few (goal.at.returns-then-codes-kinds e).Else-kinds-gt-MOST, inr (inr c.if-codes-kinds.true)))
 
 pub returns : goal.returns
 returns c =
     let g = c.args in
     let e = c in
     sym ((naught g.kinds g.lefts g.rights g.numbers g.marks g.codes).1
-    (as_many (goal.at.returns e).Else-kinds-rights, few e, (c.if-numbers-kinds.false, c.if-marks-kinds.false, c.if-codes-kinds.false)))
+    (as_many (goal.at.returns e).Else-kinds-rights, few (goal.at.returns e).Else-kinds-gt-MOST, (c.if-numbers-kinds.false, c.if-marks-kinds.false, c.if-codes-kinds.false)))
