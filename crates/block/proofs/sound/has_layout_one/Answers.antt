@@ -55,7 +55,3 @@ returns c =
     (head-of-one b ∙ sym d.all_zero.ensures ∙ d.if-not-all_zero.false)
     (sym c.all_zero-2.ensures
     ∙ c.if-not-all_zero-2.false)
-
--- ?? no goal for overflow-cast-count
--- cast-count : tie.Need-overflow-cast-count
--- cast-count c = omega (arith, c.shared-slice-known3.given 4)

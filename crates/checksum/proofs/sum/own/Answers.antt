@@ -45,7 +45,3 @@ overflow_add-sum-in-loop-i c = omega (arith, here c)
 
 pub loop-i-preserved : goal.loop-i-preserved
 loop-i-preserved c = (omega (arith, here c), omega arith, omega arith)
-
--- ?? no goal for overflow-cast-sum-2
--- cast-sum-2 : tie.Need-overflow-cast-sum-2 invariant-loop decreases-loop
--- cast-sum-2 c = omega (arith, c.shared-slice-known.given (i c))

@@ -18,7 +18,3 @@ returns c =
     let e6 : at + 6 ≡ suc (suc (suc (suc (suc (suc at))))) = omega arith in
     let e7 : at + 7 ≡ suc (suc (suc (suc (suc (suc (suc at)))))) = omega arith in
     simp (e1, e2, e3, e4, e5, e6, e7)
-
--- ?? no goal for same-length
--- same_length : tie.Need-same-length
--- same_length c = simp length-set refl

@@ -1,0 +1,22 @@
+-- `write::lay_all` meets its contract. The invariant: the run begins with the blocks before this position and goes on
+-- as it was.
+-- Assumes nothing.
+use mathlib.Core.Path.{◌≡◌, refl, ap, sym, ◌∙◌}
+use Prim.Native.Nat.{◌+◌, ◌-◌, ◌*◌, ◌≤◌, ◌<◌}
+use native.Mathlib.Omega.{arith}
+use borrow.Author.Rules.{rules}
+use lib.ListN.{length}
+use Rattle.places.specs.Places.{chained, overlaid}
+use Rattle.layout.specs.Editions.{one}
+use Rattle.written.specs.Run.{field_block}
+use Rattle.written.proofs.Counts.{begins-within}
+use Rattle.write.proofs.Walks.{none-laid, block-turn, overlaid-long, all-laid}
+use Rattle.write.proofs.write.lay_all.Given as goal
+
+abbrev pub invariant-loop-position : goal.invariant-loop-position
+invariant-loop-position l = (l.run ≡ overlaid (chained (field_block one l.first l.numbers l.marks) l.position) l.initial.run)
+    × (length l.run ≡ length l.initial.run)
+    × (l.position ≤ l.blocks)
+
+abbrev pub decreases-loop-position : goal.decreases-loop-position
+decreases-loop-position l = l.blocks - l.position

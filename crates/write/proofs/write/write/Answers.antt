@@ -1,0 +1,54 @@
+-- `write::write` meets its contract: each return is one of the writer's ends.
+-- Assumes nothing.
+use borrow.Author.Rules.{rules}
+use Rattle.written.specs.Run.{blocks_for}
+use Rattle.write.proofs.Ends.{unequal-ends, empty-ends, bad-ends, short-ends, large-ends, written-ends}
+use Rattle.write.proofs.write.write.Goals as goal
+
+pub returns-then-count-marks-clause-result_value : goal.returns-then-count-marks-clause-result_value
+returns-then-count-marks-clause-result_value c = (unequal-ends _ _ _ _ (search rules)).0
+
+pub returns-then-count-marks-clause-run_new : goal.returns-then-count-marks-clause-run_new
+returns-then-count-marks-clause-run_new c = (unequal-ends _ _ _ _ (search rules)).1
+
+pub returns-then-count-eq0-clause-result_value : goal.returns-then-count-eq0-clause-result_value
+returns-then-count-eq0-clause-result_value c = (empty-ends _ _ _ _ (search rules) (search rules)).0
+
+pub returns-then-count-eq0-clause-run_new : goal.returns-then-count-eq0-clause-run_new
+returns-then-count-eq0-clause-run_new c = (empty-ends _ _ _ _ (search rules) (search rules)).1
+
+pub returns-then-place-count-clause-result_value : goal.returns-then-place-count-clause-result_value
+returns-then-place-count-clause-result_value c = (bad-ends _ _ _ _ (search rules) (search rules) _ c.first_bad-place.ensures (search rules)).0
+
+pub returns-then-place-count-clause-run_new : goal.returns-then-place-count-clause-run_new
+returns-then-place-count-clause-run_new c = (bad-ends _ _ _ _ (search rules) (search rules) _ c.first_bad-place.ensures (search rules)).1
+
+pub returns-then-run-blocks-clause-result_value : goal.returns-then-run-blocks-clause-result_value
+returns-then-run-blocks-clause-result_value c = (short-ends _ _ _ _ (search rules) (search rules) _ c.first_bad-place.ensures (search rules)
+    (search rules)).0
+
+pub returns-then-run-blocks-clause-run_new : goal.returns-then-run-blocks-clause-run_new
+returns-then-run-blocks-clause-run_new c = (short-ends _ _ _ _ (search rules) (search rules) _ c.first_bad-place.ensures (search rules)
+    (search rules)).1
+
+pub returns-then-left-blocks-clause-result_value : goal.returns-then-left-blocks-clause-result_value
+returns-then-left-blocks-clause-result_value c = (large-ends _ _ _ _ (search rules) (search rules) _ c.first_bad-place.ensures (search rules)
+    (search rules) (search rules)).0
+
+pub returns-then-left-blocks-clause-run_new : goal.returns-then-left-blocks-clause-run_new
+returns-then-left-blocks-clause-run_new c = (large-ends _ _ _ _ (search rules) (search rules) _ c.first_bad-place.ensures (search rules)
+    (search rules) (search rules)).1
+
+pub lay_all-requires : goal.lay_all-requires
+unfolding blocks_for
+lay_all-requires c = search rules
+
+pub returns-clause-result_value : goal.returns-clause-result_value
+returns-clause-result_value c =
+    let found = c.first_bad-place.ensures in (written-ends _ _ _ _ (search rules) (search rules) _ found (search rules) (search rules) (search rules)
+    c.lay_all.ensures).0
+
+pub returns-clause-run_new : goal.returns-clause-run_new
+returns-clause-run_new c =
+    let found = c.first_bad-place.ensures in (written-ends _ _ _ _ (search rules) (search rules) _ found (search rules) (search rules) (search rules)
+    c.lay_all.ensures).1
