@@ -19,8 +19,7 @@ const EXTENT_LENGTH: usize = 2;
 
 // The least and the greatest reading go into the list `extent`, which stays on every refusal: where it has no room, or
 // the answer has none, the level isn't looked at.
-#[unsafe(no_mangle)]
-pub extern "C" fn razovinto_level_scan(
+pub fn razovinto_level_scan(
     level: &[f32],
     grounds: &[u8],
     extent: &mut [f32],
@@ -58,8 +57,7 @@ pub extern "C" fn razovinto_level_scan(
 
 // The field goes into the two lists, which stay on every refusal: where there is no room for the answer, the level isn't
 // looked at.
-#[unsafe(no_mangle)]
-pub extern "C" fn razovinto_level_to_field(
+pub fn razovinto_level_to_field(
     level: &[f32],
     grounds: &[u8],
     numbers: &mut [u64],

@@ -28,8 +28,7 @@ const WRITTEN_LENGTH: usize = 2;
 const FOUND_LENGTH: usize = 4;
 
 // 0 where the block is sound, or why it isn't. The place would always be 0.
-#[unsafe(no_mangle)]
-pub extern "C" fn razovinto_sound(block: &[u8]) -> u32
+pub fn razovinto_sound(block: &[u8]) -> u32
     ensures { result ≡ (sound_of block.now).code }
 {
     match sound(block) {
@@ -40,8 +39,7 @@ pub extern "C" fn razovinto_sound(block: &[u8]) -> u32
 
 // The block's values go into the two lists, which stay on every refusal: where there is no room for the answer, the
 // block isn't looked at.
-#[unsafe(no_mangle)]
-pub extern "C" fn razovinto_read(
+pub fn razovinto_read(
     block: &[u8],
     numbers: &mut [u64],
     marks: &mut [u8],
@@ -75,8 +73,7 @@ pub extern "C" fn razovinto_read(
 
 // The field's blocks go into the run, which stays on every refusal: where there is no room for the answer, the field
 // isn't looked at.
-#[unsafe(no_mangle)]
-pub extern "C" fn razovinto_write(
+pub fn razovinto_write(
     first: u32,
     numbers: &[u64],
     marks: &[u8],
@@ -108,8 +105,7 @@ pub extern "C" fn razovinto_write(
 }
 
 // The first overflowed value of a run of blocks, or none; on a refusal the position of the bad block.
-#[unsafe(no_mangle)]
-pub extern "C" fn razovinto_search(run: &[u8], answer: &mut [u64]) -> u32
+pub fn razovinto_search(run: &[u8], answer: &mut [u64]) -> u32
     ensures value { result ≡ answer_code (of_search (search_of run.now)) answer.old }
     ensures answer_new { answer.new ≡ answer_list (of_search (search_of run.now)) answer.old }
 {

@@ -13,8 +13,7 @@ use field::types::Scan;
 const RANGE_LENGTH: usize = 4;
 
 // The range of a field that has no overflowed place; on a refusal its place, and zeros.
-#[unsafe(no_mangle)]
-pub extern "C" fn razovinto_scan(numbers: &[u64], marks: &[u8], answer: &mut [u64]) -> u32
+pub fn razovinto_scan(numbers: &[u64], marks: &[u8], answer: &mut [u64]) -> u32
     ensures value { result ≡ answer_code (of_scan (scan_of numbers.now marks.now)) answer.old }
     ensures answer_new { answer.new ≡
         answer_list (of_scan (scan_of numbers.now marks.now)) answer.old }

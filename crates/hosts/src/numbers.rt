@@ -10,8 +10,7 @@ use signed::divide::{quotient64, remainder64};
 use signed::types::Signed64;
 
 // 1 where the power fits 64 bits, 0 where it doesn't.
-#[unsafe(no_mangle)]
-pub extern "C" fn razovinto_power_fits(base: u64, exponent: u64) -> u32
+pub fn razovinto_power_fits(base: u64, exponent: u64) -> u32
     ensures { result ≡ cond (power_fits base exponent) 1 0 }
 {
     if power_fits(base, exponent) {
@@ -36,8 +35,7 @@ fn put_signed(res: &mut [i64], answer: Signed64) -> u32
 }
 
 // The truncating quotient. The smallest number by -1 is refused with 4.
-#[unsafe(no_mangle)]
-pub extern "C" fn razovinto_signed_quotient(left: i64, right: i64, res: &mut [i64]) -> u32
+pub fn razovinto_signed_quotient(left: i64, right: i64, res: &mut [i64]) -> u32
     ensures value { result ≡ signed_code (quotient_of 64 left right) res.old }
     ensures res_new { res.new ≡ signed_list (quotient_of 64 left right) res.old }
 {
@@ -48,8 +46,7 @@ pub extern "C" fn razovinto_signed_quotient(left: i64, right: i64, res: &mut [i6
 }
 
 // What it leaves, which for the smallest number by -1 is 0.
-#[unsafe(no_mangle)]
-pub extern "C" fn razovinto_signed_remainder(left: i64, right: i64, res: &mut [i64]) -> u32
+pub fn razovinto_signed_remainder(left: i64, right: i64, res: &mut [i64]) -> u32
     ensures value { result ≡ signed_code (remainder_of left right) res.old }
     ensures res_new { res.new ≡ signed_list (remainder_of left right) res.old }
 {

@@ -24,13 +24,7 @@ const SHAPE_LENGTH: usize = 2;
 const RUN_LENGTH: usize = 50;
 
 // Whether a recipe is well formed, and the limit of its width.
-#[unsafe(no_mangle)]
-pub extern "C" fn razovinto_shape(
-    width: u64,
-    kinds: &[u8],
-    numbers: &[u64],
-    answer: &mut [u64],
-) -> u32
+pub fn razovinto_shape(width: u64, kinds: &[u8], numbers: &[u64], answer: &mut [u64]) -> u32
     ensures value { result ≡ answer_code (of_shape (shape_of width kinds.now numbers.now)) answer.old }
     ensures answer_new { answer.new ≡
         answer_list (of_shape (shape_of width kinds.now numbers.now)) answer.old }
@@ -97,8 +91,7 @@ fn put_run(lent: &mut [u64], shown: Run) -> u32
 }
 
 // What a run shows: all of it, whatever its answer is.
-#[unsafe(no_mangle)]
-pub extern "C" fn razovinto_run(
+pub fn razovinto_run(
     width: u64,
     kinds: &[u8],
     numbers: &[u64],

@@ -5,8 +5,7 @@ ghost use Rattle.rows.specs.Rows.{lists, code_for, numbers_after, marks_after, c
 use rows::row::row;
 
 // 0 is returned, or the refusal's number, whose place is 0.
-#[unsafe(no_mangle)]
-pub extern "C" fn razovinto_row(
+pub fn razovinto_row(
     kinds: &[u8],
     lefts: &[u64],
     rights: &[u64],

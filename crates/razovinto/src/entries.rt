@@ -17,8 +17,7 @@ const LIMIT: u64 = 18446744073709551615;
 // What an entry writes has this many bytes. A slice with fewer is refused before anything else is looked at.
 const RESULT_LENGTH: usize = 16;
 
-#[unsafe(no_mangle)]
-pub extern "C" fn razovinto_sum(left: u64, right: u64, res: &mut [u8]) -> u32
+pub fn razovinto_sum(left: u64, right: u64, res: &mut [u8]) -> u32
     ensures value { result ≡ returned (sums_of (limit_of 64) left right) res.old }
     ensures res_new { res.new ≡ afterwards (sums_of (limit_of 64) left right) res.old }
 {
@@ -28,8 +27,7 @@ pub extern "C" fn razovinto_sum(left: u64, right: u64, res: &mut [u8]) -> u32
     put_answer(res, Answer64::Value(checked_add(LIMIT, left, right)))
 }
 
-#[unsafe(no_mangle)]
-pub extern "C" fn razovinto_product(left: u64, right: u64, res: &mut [u8]) -> u32
+pub fn razovinto_product(left: u64, right: u64, res: &mut [u8]) -> u32
     ensures value { result ≡ returned (products_of (limit_of 64) left right) res.old }
     ensures res_new { res.new ≡ afterwards (products_of (limit_of 64) left right) res.old }
 {
@@ -39,8 +37,7 @@ pub extern "C" fn razovinto_product(left: u64, right: u64, res: &mut [u8]) -> u3
     put_answer(res, Answer64::Value(checked_mul(LIMIT, left, right)))
 }
 
-#[unsafe(no_mangle)]
-pub extern "C" fn razovinto_quotient(left: u64, right: u64, res: &mut [u8]) -> u32
+pub fn razovinto_quotient(left: u64, right: u64, res: &mut [u8]) -> u32
     ensures value { result ≡ returned (divided_by left right) res.old }
     ensures res_new { res.new ≡ afterwards (divided_by left right) res.old }
 {
@@ -50,8 +47,7 @@ pub extern "C" fn razovinto_quotient(left: u64, right: u64, res: &mut [u8]) -> u
     put_answer(res, checked_div(left, right))
 }
 
-#[unsafe(no_mangle)]
-pub extern "C" fn razovinto_remainder(left: u64, right: u64, res: &mut [u8]) -> u32
+pub fn razovinto_remainder(left: u64, right: u64, res: &mut [u8]) -> u32
     ensures value { result ≡ returned (left_by left right) res.old }
     ensures res_new { res.new ≡ afterwards (left_by left right) res.old }
 {
@@ -61,8 +57,7 @@ pub extern "C" fn razovinto_remainder(left: u64, right: u64, res: &mut [u8]) -> 
     put_answer(res, checked_rem(left, right))
 }
 
-#[unsafe(no_mangle)]
-pub extern "C" fn razovinto_power(base: u64, exponent: u64, res: &mut [u8]) -> u32
+pub fn razovinto_power(base: u64, exponent: u64, res: &mut [u8]) -> u32
     ensures value { result ≡ returned (powers_of (limit_of 64) base exponent) res.old }
     ensures res_new { res.new ≡ afterwards (powers_of (limit_of 64) base exponent) res.old }
 {
@@ -72,8 +67,7 @@ pub extern "C" fn razovinto_power(base: u64, exponent: u64, res: &mut [u8]) -> u
     put_answer(res, Answer64::Value(checked_pow(LIMIT, base, exponent)))
 }
 
-#[unsafe(no_mangle)]
-pub extern "C" fn razovinto_logarithm(base: u64, argument: u64, res: &mut [u8]) -> u32
+pub fn razovinto_logarithm(base: u64, argument: u64, res: &mut [u8]) -> u32
     ensures value { result ≡ returned (log_by base argument) res.old }
     ensures res_new { res.new ≡ afterwards (log_by base argument) res.old }
 {
