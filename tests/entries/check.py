@@ -209,7 +209,7 @@ def theorem_faults(texts, pages):
 def joined_names(pages, files):
     """The names of words joined by `_` that the pages may name."""
     names = set().union(*(declared for declared, _ in pages.values()))
-    names |= {name for _, _, _, text in files for name in IN_CODE.findall(text)}
+    names |= {name for _, _, _, text in files for name in IN_CODE.findall(text)} | {crate for crate, *_ in files}
     names |= {name for path in FOR_HOSTS for name in JOINED.findall(read(*path))}
     clauses = [line.split() for line in read("tests", "contracts", "digests.txt").split("\n") if line[:1] not in ("", "#")]
     return names | {file.removesuffix(".rs") for file, *_ in clauses} | {function for _, function, *_ in clauses}
