@@ -9,8 +9,8 @@ row names its function and its clause, as `ensures x == y`: the kind, and then u
 
 - a clause that has no row, or two; a row whose words are no clause of its function; a group that the page doesn't name
 - a list that isn't the one that was made from upstream's text: SEAL is its digest
-- a cited name, as `whole.mul.lemma-mul-basics`, that isn't declared `pub` in crates/whole/proofs/mul.antt,
-  crates/whole/specs/mul.antt or crates/whole/src/mul.rt; a law of another name than the row's function
+- a cited name, as `whole.Mul.lemma-mul-basics`, that isn't declared `pub` in crates/whole/proofs/Mul.antt,
+  crates/whole/specs/Mul.antt or crates/whole/src/Mul.rt; a law, or a definition, of another name than the row's function
 - a part, `.1`, that the law's statement doesn't have, or that two `ensures` of one function are given by
 - a verdict that the page doesn't explain; one but `same` that has no reason; a clause that is given by nothing
 - a row that is different, left out or refused with no entry in docs/DIFFERENCES.md, and an entry for any other row
@@ -38,7 +38,7 @@ DIFFERS = {"refused instead of required", "different", "left out"}
 CITED = re.compile(r"`([a-z_0-9]+(?:\.[^\s`.]+){2,})`")
 CELL = re.compile(r"(?<!\\)\|")
 QUOTED = re.compile(r"`([^`]*)`")
-LAWS = {"mul.rs": "mul", "div_mod.rs": "div-mod", "power.rs": "power", "logarithm.rs": "logarithm"}
+LAWS = {"mul.rs": "Mul", "div_mod.rs": "DivMod", "power.rs": "Power", "logarithm.rs": "Logarithm"}
 WIDTHS = ("narrow.checked8", "narrow.checked16", "narrow.checked32", "checked.checked64")
 SOURCES = {}
 
@@ -133,8 +133,9 @@ def clause_faults(rows, listing, page):
 
 
 def own(row):
-    """The law here that has the name of a row's function."""
-    return f"whole.{LAWS.get(row.file)}.{row.function.replace('_', '-')}"
+    """The law here that has the name of a row's function, with dashes; or the definition, whose name is upstream's."""
+    law = re.match(r"lemma\d*_", row.function)
+    return f"whole.{LAWS.get(row.file)}.{row.function.replace('_', '-') if law else row.function}"
 
 
 def citation_faults(rows, page):
@@ -233,7 +234,7 @@ def damages(page, differences, listing):
     more = next(r for r in rows if r.verdict == "stronger")
     cited = re.escape(f"`{CITED.search(row.here).group(1)}`")
     of_row = f"| `{row.function}` |"
-    nowhere = "`whole.div-mod.lemma-nowhere`"
+    nowhere = "`whole.DivMod.lemma-nowhere`"
     differs = r"\| same \|[^|]*\|$"
     no_entry, no_clause, no_row = "has no entry for it", "no such clause", "has no row in upstream's words"
     yield "a name that stands nowhere", "does not stand in the crates", changed(row, cited, nowhere)

@@ -15,6 +15,10 @@ dashes, `count-bounded`; or with its page before it, `Closed.log-equation`, as a
 declared in the crates' proofs or specs, and where its page is named, on a page of that name. Where a row of a table
 ends with a page of a crate, `recipe.Promises`, the names in the cell before it must stand there, or come there by
 `pub use`.
+
+A definition or a function is named on these pages by lowercase words joined by `_`, alone or in a formula in
+backquotes, `scan_of numbers marks`. It must be declared in the crates' proofs, specs or src, in the header, the Fortran
+or the Python module, or be one of upstream's (tests/contracts/digests.txt).
 It prints what is wrong, a line each, and then exits 1.
 """
 import ast
@@ -35,6 +39,10 @@ THEOREM = re.compile(rf"`({DASHED}|[A-Z][A-Za-z]*\.(?!antt`)[a-z0-9^-]+)`")
 ON_PAGE = re.compile(r"\|([^|]*)\|\s*`([a-z_0-9]+)\.([A-Z][A-Za-z]*)`\s*\|\s*$")
 DECLARED = re.compile(r"^\s*(?:unfoldable |abbrev )*(?:pub )?([a-z0-9^][^\s:(){}]*)\s*:", re.M)
 BROUGHT = re.compile(r"^pub use \S+\.\{([^}]*)\}", re.M)
+QUOTED = re.compile(r"`([^`]+)`")
+JOINED = re.compile(r"(?<![\w:./-])[a-z][a-z0-9]*(?:_[a-z0-9]+)+(?![\w:./-])")
+IN_CODE = re.compile(r"\b(?:fn|const|mod) ([a-z_0-9]+)")
+FOR_HOSTS = (("include", "razovinto.h"), ("include", "razovinto.f90"), ("python", "razovinto.py"))
 
 
 def read(*path):
@@ -198,6 +206,29 @@ def theorem_faults(texts, pages):
     return faults, len(seen)
 
 
+def joined_names(pages, files):
+    """The names of words joined by `_` that the pages may name."""
+    names = set().union(*(declared for declared, _ in pages.values()))
+    names |= {name for _, _, _, text in files for name in IN_CODE.findall(text)} | {crate for crate, *_ in files}
+    names |= {name for path in FOR_HOSTS for name in JOINED.findall(read(*path))}
+    clauses = [line.split() for line in read("tests", "contracts", "digests.txt").split("\n") if line[:1] not in ("", "#")]
+    return names | {file.removesuffix(".rs") for file, *_ in clauses} | {function for _, function, *_ in clauses}
+
+
+def joined_on(text):
+    """The names of words joined by `_` on a page, each with its line."""
+    for number, line in enumerate(text.split("\n"), 1):
+        for quoted in QUOTED.findall(line):
+            yield from ((number, name) for name in JOINED.findall(quoted))
+
+
+def name_faults(texts, names):
+    """Which names of definitions and functions on the pages stand nowhere, and how many names there are."""
+    on = [(file, number, name) for file, text in texts.items() for number, name in joined_on(text)]
+    faults = [f"{file}, line {number}: `{name}` stands nowhere" for file, number, name in on if name not in names]
+    return faults, len({name for _, _, name in on})
+
+
 def page_of(row):
     return "`{}.{}`".format(*ON_PAGE.search(row).groups()[1:])
 
@@ -235,6 +266,15 @@ def tried(texts, pages):
     return bool(theorem_faults({"README.md": moved}, pages)[0])
 
 
+def name_tried(texts, names):
+    """The check must see a definition that stands nowhere, on each page."""
+    for file, text in texts.items():
+        _, name = next(joined_on(text))
+        if not name_faults({file: text.replace(name, name + "x")}, names)[0]:
+            return False
+    return True
+
+
 def main():
     page, _, table = read("docs", "ENTRIES.md").partition(DOORS)
     named = set(re.findall(r"`([^`\s]+)`", page))
@@ -243,9 +283,13 @@ def main():
     more, edits = edit_faults(named)
     texts, pages = {file: read(file) for file in NAMING}, declarations()
     wrong, theorems = theorem_faults(texts, pages)
-    faults += row_faults(page) + more + wrong + door_faults(table, files)
+    names = joined_names(pages, files)
+    unknown, joined = name_faults(texts, names)
+    faults += row_faults(page) + more + wrong + unknown + door_faults(table, files)
     if not faults and not tried(texts, pages):
         faults.append("tests/entries/check.py: a damaged page passes")
+    if not faults and not name_tried(texts, names):
+        faults.append("tests/entries/check.py: a definition that stands nowhere passes")
     if not faults and not row_tried(page):
         faults.append("tests/entries/check.py: a row without 'unique by' passes")
     if not faults and not program_tried(files, named):
@@ -258,6 +302,7 @@ def main():
         sys.exit(1)
     print(f"entries: {functions} public functions, each with a promise and a row; {edits} must-fail edits, each named")
     print(f"entries: {theorems} theorems named on the pages, each found; a door or a word why for each function")
+    print(f"entries: {joined} names of definitions and functions on the pages, each found")
 
 
 if __name__ == "__main__":
