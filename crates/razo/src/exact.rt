@@ -24,22 +24,18 @@ fn product(digit: u8, factor: u8) -> u64
 // The number that decimal digits stand for, the lowest first, times a factor, and so much more.
 fn multiply(digits: &mut [u8; DIGITS], factor: u8, more: u32) {
     let mut carry = more as u64;
-    let mut i = 0;
-    while i < DIGITS {
-        let n = product(digits[i], factor) + carry;
-        digits[i] = (n % 10) as u8;
+    for digit in digits.iter_mut() {
+        let n = product(*digit, factor) + carry;
+        *digit = (n % 10) as u8;
         carry = n / 10;
-        i = i + 1;
     }
 }
 
 // The digits of a size times a factor to the power of so many.
 fn raise(digits: &mut [u8; DIGITS], size: u32, factor: u8, times: u32) {
     multiply(digits, 0, size);
-    let mut left = times;
-    while 0 < left {
+    for _ in 0..times {
         multiply(digits, factor, 0);
-        left = left - 1;
     }
 }
 
@@ -67,12 +63,9 @@ fn put_digit(
 fn put_digits(line: &mut [u8], from: usize, digits: &[u8; DIGITS], point: usize) -> usize {
     let mut at = from;
     let mut end = from;
-    let mut place = DIGITS;
-    while 0 < place {
-        place = place - 1;
-        let digit = digits[place];
-        at = put_digit(line, at, at == from, digit, place, point);
-        if digit != 0 || point <= place {
+    for (place, digit) in digits.iter().enumerate().rev() {
+        at = put_digit(line, at, at == from, *digit, place, point);
+        if *digit != 0 || point <= place {
             end = at;
         }
     }

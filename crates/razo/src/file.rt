@@ -1,52 +1,75 @@
 // A file that is read in parts.
+use crate::system::{Streams, System};
 use crate::text::{fail, same};
-use libc::STDIN_FILENO;
+use std::fs::File;
+use std::io;
+use std::io::{ErrorKind, Read};
+
+// How many bytes a part has: as many as a pipe holds, so that little time goes into calls.
+pub(crate) const PART: usize = 65536;
+
+// Standard input, or a file of a name. It stays open to this value's end, and standard input to the program's.
+#[derive(Drop)]
+pub(crate) enum Source<S, F> {
+    Standard(S),
+    Named(F),
+}
+
+impl<S: Read, F: Read> Read for Source<S, F> {
+    fn read(&mut self, part: &mut [u8]) -> io::Result<usize> {
+        match self {
+            Source::Standard(input) => input.read(part),
+            Source::Named(file) => file.read(part),
+        }
+    }
+}
 
 // How far a part was filled: to its own end, or so many bytes to the end of the input or to a read that failed.
 #[derive(Clone, Copy)]
 pub(crate) enum Filled {
     Full,
     Ended(usize),
-    Failed(usize),
+    Failed(usize, io::Error),
 }
 
-// A descriptor of the file, or a negative number. `-` is standard input.
-pub(crate) fn open(name: &[u8]) -> i32 {
+// The file, or why it can't be opened. `-` is standard input. std takes names of UTF-8 alone.
+pub(crate) fn open<R: System>(rt: &R, name: &[u8]) -> io::Result<Source<R::Reader, R::File>> {
     if same(name, b"-") {
-        return STDIN_FILENO;
+        return Ok(Source::Standard(rt.reader()));
     }
-    os::open_read(name)
+    match str::from_utf8(name) {
+        Ok(path) => Ok(Source::Named(File::open(rt, path)?)),
+        Err(_) => Err(io::Error::new(ErrorKind::InvalidFilename, "the name is not UTF-8")),
+    }
 }
 
 // Reads until the part is full, the input ends or a read fails.
-pub(crate) fn fill(fd: i32, part: &mut [u8]) -> Filled {
+pub(crate) fn fill<R: Read>(input: &mut R, part: &mut [u8]) -> Filled {
     let mut have = 0;
     while have < part.len() {
-        let got = libc::read(fd, &mut part[have..]);
-        if got < 0 {
-            return Filled::Failed(have);
+        match input.read(&mut part[have..]) {
+            Ok(0) => return Filled::Ended(have),
+            Ok(more) => have += more,
+            Err(error) => return Filled::Failed(have, error),
         }
-        let more = io::count(got, &part[have..]);
-        if more == 0 {
-            return Filled::Ended(have);
-        }
-        have = have + more;
     }
     Filled::Full
 }
 
-// How many bytes of the part were filled, which are fewer than it has only where the input ended. A count past its end says
-// that a read failed, and that was told. Where there is no file, and so no descriptor, this many count as filled.
-pub(crate) fn take(fd: i32, name: &[u8], part: &mut [u8], without: usize) -> usize {
-    if fd < 0 {
-        return without;
-    }
-    match fill(fd, part) {
-        Filled::Full => part.len(),
-        Filled::Ended(count) => count,
-        Filled::Failed(_) => {
-            fail(name);
-            usize::MAX
+// How many bytes of the part were filled, which are fewer than it has only where the input ended; or nothing where a read
+// failed, and that was told.
+pub(crate) fn take<R: Read>(
+    rt: &impl Streams,
+    input: &mut R,
+    name: &[u8],
+    part: &mut [u8],
+) -> Option<usize> {
+    match fill(input, part) {
+        Filled::Full => Some(part.len()),
+        Filled::Ended(count) => Some(count),
+        Filled::Failed(_, error) => {
+            fail(rt, name, error);
+            None
         }
     }
 }
@@ -58,8 +81,5 @@ pub(crate) fn in_whole_blocks(bytes: usize) -> usize {
 
 // A count that goes on. No input is long enough for it to stay where it is.
 pub(crate) fn count_on(counted: u64, more: u64) -> u64 {
-    if 18446744073709551615 - counted < more {
-        return counted;
-    }
-    counted + more
+    counted.checked_add(more).unwrap_or(counted)
 }

@@ -1,10 +1,9 @@
 // How the tool is used.
 use crate::status::{WELL, WRONG};
+use crate::system::Streams;
+use std::io;
 
-pub(crate) fn help(fd: i32) -> u8 {
-    let written = io::write_all(
-        fd,
-        b"\
+const TEXT: &str = "\
 razo search FILE..
     the first overflowed value of a file of blocks, by block position and place;
     or that there is none; or the first bad block reached, and why it is bad
@@ -49,11 +48,16 @@ The exit status is
     razo write 0 numbers.txt >numbers.blocks
     razo level temperature.f32 ground.marks
     razo run 8 100 255 1 sum 0 product
-",
-    );
-    if written {
-        return WELL;
-    }
-    os::fail(b"razo: standard output");
+";
+
+// Whoever asks for it is told on standard output.
+pub(crate) fn help(rt: &impl Streams) -> io::Result<u8> {
+    rt.write_all(TEXT.as_bytes())?;
+    Ok(WELL)
+}
+
+// Whoever gives no command is told on standard error.
+pub(crate) fn usage(rt: &impl Streams) -> u8 {
+    let _ = rt.write_error(TEXT.as_bytes());
     WRONG
 }

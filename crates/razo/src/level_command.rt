@@ -3,16 +3,18 @@
 ghost use Rattle.std.specs.Prelude.{◌+◌, ◌*◌, ◌≤◌, length};
 
 use crate::exact::put_exact;
-use crate::file::{count_on, open, take};
+use crate::file::{PART, count_on, open, take};
 use crate::reason::complain_refusal;
-use crate::status::{WELL, WRONG, told};
-use crate::text::{complain, complain_form, fail, first, write_out};
+use crate::status::{WELL, WRONG};
+use crate::system::{Streams, System};
+use crate::text::{complain, complain_form, fail, first, same, write_out};
 use checked::refusal::Refusal;
 use level::scan::scan;
 use level::types::{Extent, LevelScan};
 use lines::put::word;
+use std::io::{Read, Result};
 
-// Readings to a part: a large buffer holds their bytes.
+// Readings to a part, which holds their bytes.
 const READINGS: usize = 16384;
 
 // What lies behind: bytes of floats, ground marks, and the scan of the readings that have one.
@@ -31,7 +33,22 @@ enum Part {
     Failed,
 }
 
+// A level's floats, and its ground marks unless all of it is in the air.
+#[derive(Drop)]
+struct Inputs<R> {
+    values: R,
+    ground: Option<R>,
+}
+
+// The names of both files.
+#[derive(Clone, Copy)]
+struct Names<'a> {
+    values: &'a [u8],
+    ground: &'a [u8],
+}
+
 // The float of four bytes, the lowest first. All NaNs are one: which it was is no matter for any answer.
+#[tactic(auto, using(std::proofs::lemmas::Float::not_nan_f32_bits))]
 fn float_at(bytes: &[u8], at: usize) -> f32
     requires { at + 4 ≤ length bytes.now }
 {
@@ -46,10 +63,8 @@ fn float_at(bytes: &[u8], at: usize) -> f32
 fn scan_part(bytes: &[u8], ground: &[u8], level: &mut [f32]) -> LevelScan
     requires { 4 * length level.old ≤ length bytes.now }
 {
-    let mut i = 0;
-    while i < level.len() {
+    for i in 0..level.len() {
         level[i] = float_at(bytes, 4 * i);
-        i = i + 1;
     }
     scan(level, ground)
 }
@@ -72,10 +87,7 @@ fn joined(before: LevelScan, behind: u64, part: LevelScan) -> LevelScan {
             } else {
                 all.greatest
             };
-            LevelScan::Ranged(Extent {
-                least: least,
-                greatest: greatest,
-            })
+            LevelScan::Ranged(Extent { least, greatest })
         }
         LevelScan::Refused(refusal, place) => match refusal {
             Refusal::FieldEmpty => before,
@@ -106,23 +118,35 @@ fn look(so_far: Behind, part: &[u8], bytes: usize, marks: &[u8], count: usize) -
     }
 }
 
-// The next part of both files. Where there is none of ground marks, as many zeros as readings are taken for them.
-fn next_part(
-    fds: [i32; 2],
-    values: &[u8],
+// How many ground marks the next part has. Where there is no file of them, as many zeros as readings are taken for them.
+fn take_marks<R: Read>(
+    rt: &impl Streams,
+    input: &mut Option<R>,
     ground: &[u8],
+    marks: &mut [u8],
+    readings: usize,
+) -> Option<usize> {
+    match input {
+        Some(input) => take(rt, input, ground, marks),
+        None => Some(readings),
+    }
+}
+
+// The next part of both files.
+fn next_part<R: Read>(
+    rt: &impl Streams,
+    inputs: &mut Inputs<R>,
+    names: Names<'_>,
     part: &mut [u8],
     marks: &mut [u8],
     so_far: Behind,
 ) -> Part {
-    let bytes = take(fds[0], values, part, 0);
-    if part.len() < bytes {
+    let Some(bytes) = take(rt, &mut inputs.values, names.values, part) else {
         return Part::Failed;
-    }
-    let count = take(fds[1], ground, marks, bytes / 4);
-    if marks.len() < count {
+    };
+    let Some(count) = take_marks(rt, &mut inputs.ground, names.ground, marks, bytes / 4) else {
         return Part::Failed;
-    }
+    };
     let behind = look(so_far, part, bytes, marks, count);
     if bytes < part.len() && count < marks.len() {
         return Part::Ended(behind);
@@ -149,59 +173,60 @@ fn put_reading(line: &mut [u8], from: usize, before: &[u8], x: f32) -> usize {
     from
 }
 
-fn say_extent(extent: Extent) -> u8 {
-    let mut space = [0u8; 512];
-    let line: &mut [u8] = &mut space;
-    let mut at = put_reading(line, 0, b"least: ", extent.least);
-    at = put_reading(line, at, b"greatest: ", extent.greatest);
-    told(write_out(line, at), WELL)
+fn say_extent(rt: &impl Streams, extent: Extent) -> Result<u8> {
+    let mut line = [0u8; 512];
+    let mut at = put_reading(&mut line, 0, b"least: ", extent.least);
+    at = put_reading(&mut line, at, b"greatest: ", extent.greatest);
+    write_out(rt, &line, at)?;
+    Ok(WELL)
 }
 
 // A mark's place is one of the file of marks.
-fn complain_place(values: &[u8], ground: &[u8], refusal: Refusal, place: u64) -> u8 {
-    match refusal {
-        Refusal::BadMark => complain_refusal(ground, b": place #: ", &[place], refusal),
-        _ => complain_refusal(values, b": place #: ", &[place], refusal),
-    }
+fn complain_place(rt: &impl Streams, names: Names<'_>, refusal: Refusal, place: u64) -> u8 {
+    let name = match refusal {
+        Refusal::BadMark => names.ground,
+        _ => names.values,
+    };
+    complain_refusal(rt, name, b": place #: ", &[place], refusal)
 }
 
 // The answer once both files have ended.
-fn conclude(values: &[u8], ground: &[u8], all: Behind) -> u8 {
+fn conclude(rt: &impl Streams, names: Names<'_>, all: Behind) -> Result<u8> {
     let bytes = all.bytes;
     let readings = bytes / 4;
     let marks = all.marks;
     let scan = all.scan;
     if bytes % 4 != 0 {
-        return complain_form(
-            values,
+        return Ok(complain_form(
+            rt,
+            names.values,
             b": # bytes are no whole number of readings, of 4 bytes each",
             &[bytes],
             b"\n",
-        );
+        ));
     }
     if readings != marks {
-        return complain_refusal(
-            values,
+        return Ok(complain_refusal(
+            rt,
+            names.values,
             b": # readings, # ground marks: ",
             &[readings, marks],
             Refusal::LengthsDiffer,
-        );
+        ));
     }
     if readings == 0 {
-        return complain_refusal(values, b": ", &[0], Refusal::FieldEmpty);
+        return Ok(complain_refusal(rt, names.values, b": ", &[0], Refusal::FieldEmpty));
     }
     match scan {
-        LevelScan::Ranged(extent) => say_extent(extent),
-        LevelScan::Refused(refusal, place) => complain_place(values, ground, refusal, place),
+        LevelScan::Ranged(extent) => say_extent(rt, extent),
+        LevelScan::Refused(refusal, place) => Ok(complain_place(rt, names, refusal, place)),
     }
 }
 
-// Nothing says that a file ends, so the parts are counted down from a number that no file uses up.
-fn level_parts(fds: [i32; 2], values: &[u8], ground: &[u8]) -> u8 {
-    let mut part_space = io::large_buffer();
-    let part: &mut [u8] = &mut part_space;
-    let mut marks_space = [0u8; READINGS];
-    let marks: &mut [u8] = &mut marks_space;
+// Nothing says that a file ends, but no file has so many parts.
+fn level_parts<R: Read>(rt: &impl Streams, inputs: &mut Inputs<R>, names: Names<'_>) -> Result<u8> {
+    let mut part = [0u8; PART];
+    let mut marks = [0u8; READINGS];
     let mut so_far = Behind {
         bytes: 0,
         marks: 0,
@@ -210,33 +235,43 @@ fn level_parts(fds: [i32; 2], values: &[u8], ground: &[u8]) -> u8 {
             greatest: -1.0 / 0.0,
         }),
     };
-    let mut turns: u64 = 18446744073709551615;
-    while 0 < turns {
-        match next_part(fds, values, ground, part, marks, so_far) {
+    for _ in 0..u64::MAX {
+        match next_part(rt, inputs, names, &mut part, &mut marks, so_far) {
             Part::On(now) => so_far = now,
-            Part::Ended(all) => return conclude(values, ground, all),
-            Part::Failed => return WRONG,
+            Part::Ended(all) => return conclude(rt, names, all),
+            Part::Failed => return Ok(WRONG),
         }
-        turns = turns - 1;
     }
-    WELL
+    Ok(WELL)
 }
 
-// The files of these names. They stay open to the program's end.
-pub(crate) fn level_command(values: &[u8], ground: &[u8], grounded: bool) -> u8 {
-    let fd = open(values);
-    if fd < 0 {
-        return fail(values);
+// The files of these names.
+pub(crate) fn level_command(rt: &impl System, values: &[u8], ground: Option<&[u8]>) -> Result<u8> {
+    let mut inputs = match open(rt, values) {
+        Ok(values) => Inputs {
+            values,
+            ground: None,
+        },
+        Err(error) => return Ok(fail(rt, values, error)),
+    };
+    let Some(ground) = ground else {
+        let names = Names {
+            values,
+            ground: b"",
+        };
+        return level_parts(rt, &mut inputs, names);
+    };
+    if same(values, b"-") && same(ground, b"-") {
+        return Ok(complain(
+            rt,
+            b"razo: '",
+            values,
+            b"' can't be both VALUES and GROUND\n",
+        ));
     }
-    if !grounded {
-        return level_parts([fd, -1], values, ground);
+    match open(rt, ground) {
+        Ok(input) => inputs.ground = Some(input),
+        Err(error) => return Ok(fail(rt, ground, error)),
     }
-    let ground_fd = open(ground);
-    if ground_fd < 0 {
-        return fail(ground);
-    }
-    if ground_fd == fd {
-        return complain(b"razo: '", values, b"' can't be both VALUES and GROUND\n");
-    }
-    level_parts([fd, ground_fd], values, ground)
+    level_parts(rt, &mut inputs, Names { values, ground })
 }

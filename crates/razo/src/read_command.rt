@@ -1,7 +1,8 @@
 // A line for each block of a file, part by part.
-use crate::file::{Filled, count_on, fill, in_whole_blocks};
+use crate::file::{Filled, PART, count_on, fill, in_whole_blocks};
 use crate::reason::reason;
-use crate::status::{FOUND, UNWRITTEN, WELL, told};
+use crate::status::{FOUND, WELL};
+use crate::system::Streams;
 use crate::text::{count_set, fail, first, say, write_lines};
 use block::read::read;
 use block::types::Read;
@@ -9,6 +10,10 @@ use checked::refusal::Refusal;
 use field::scan::scan;
 use field::types::Scan;
 use lines::put::word;
+use std::io::{Error, Read as Reads, Result};
+
+// There is room for the lines of a part's blocks, of which each has fewer than 512 bytes.
+const LINES: usize = PART;
 
 // How many blocks were read, how many of them are bad, and how many have overflowed values.
 #[derive(Clone, Copy)]
@@ -51,13 +56,8 @@ fn put_number(line: &mut [u8], at: usize, width: usize, n: u64) -> usize {
 // Numbers, each in its column.
 fn put_columns(line: &mut [u8], from: usize, widths: &[usize], numbers: &[u64]) -> usize {
     let mut at = from;
-    let mut i = 0;
-    while i < numbers.len() {
-        if widths.len() <= i {
-            return at;
-        }
-        at = put_number(line, at, widths[i], numbers[i]);
-        i = i + 1;
+    for (width, n) in widths.iter().zip(numbers) {
+        at = put_number(line, at, *width, *n);
     }
     at
 }
@@ -107,7 +107,7 @@ fn list_good(
     at = word(lines, at, b"\n");
     let with_overflowed = if overflowed == 0 { 0 } else { 1 };
     Listed {
-        at: at,
+        at,
         tally: counted(tally, 0, with_overflowed),
     }
 }
@@ -119,7 +119,7 @@ fn list_bad(lines: &mut [u8], listed: Listed, refusal: Refusal) -> Listed {
     at = reason(lines, at, refusal);
     at = word(lines, at, b"\n");
     Listed {
-        at: at,
+        at,
         tally: counted(tally, 1, 0),
     }
 }
@@ -141,31 +141,24 @@ fn list_block(lines: &mut [u8], listed: Listed, block: &[u8]) -> Listed {
 
 // The lines of a part's blocks. A short block at the end of the file is a bad one.
 fn list_blocks(lines: &mut [u8], tally: Tally, bytes: &[u8]) -> Listed {
-    let mut listed = Listed {
-        at: 0,
-        tally: tally,
-    };
-    let mut from = 0;
-    while from < bytes.len() {
-        listed = list_block(lines, listed, first(&bytes[from..], 512));
-        if bytes.len() - from < 512 {
-            return listed;
-        }
-        from = from + 512;
+    let mut listed = Listed { at: 0, tally };
+    for block in bytes.chunks(512) {
+        listed = list_block(lines, listed, block);
     }
     listed
 }
 
-fn say_columns(name: &[u8], named: bool) -> bool {
+fn say_columns(rt: &impl Streams, name: &[u8], named: bool) -> Result<()> {
     let columns =
         b"  position      number  count  overflowed                 least              greatest  width\n";
-    write_lines(name, named, columns, columns.len())
+    write_lines(rt, name, named, columns, columns.len())
 }
 
-fn say_tally(name: &[u8], named: bool, tally: Tally) -> bool {
+fn say_tally(rt: &impl Streams, name: &[u8], named: bool, tally: Tally) -> Result<()> {
     let blocks = tally.blocks;
     if blocks == 1 {
         return say(
+            rt,
             name,
             named,
             b"# block, # bad, # with overflowed values\n",
@@ -173,6 +166,7 @@ fn say_tally(name: &[u8], named: bool, tally: Tally) -> bool {
         );
     }
     say(
+        rt,
         name,
         named,
         b"# blocks, # bad, # with overflowed values\n",
@@ -191,88 +185,110 @@ fn status_of(tally: Tally) -> u8 {
 }
 
 // The lines of a part are written when all of them are made.
-fn list_run(name: &[u8], named: bool, run: &[u8], tally: Tally, lines: &mut [u8]) -> Listing {
+fn list_run(
+    rt: &impl Streams,
+    name: &[u8],
+    named: bool,
+    run: &[u8],
+    tally: Tally,
+    lines: &mut [u8],
+) -> Result<Tally> {
     let listed = list_blocks(lines, tally, run);
-    let now_tally = listed.tally;
-    if write_lines(name, named, lines, listed.at) {
-        return Listing::On(now_tally);
-    }
-    Listing::Over(UNWRITTEN)
+    write_lines(rt, name, named, lines, listed.at)?;
+    Ok(listed.tally)
 }
 
-fn list_last(name: &[u8], named: bool, bytes: &[u8], tally: Tally, lines: &mut [u8]) -> u8 {
-    match list_run(name, named, bytes, tally, lines) {
-        Listing::On(all) => told(say_tally(name, named, all), status_of(all)),
-        Listing::Over(status) => status,
-    }
+fn list_last(
+    rt: &impl Streams,
+    name: &[u8],
+    named: bool,
+    bytes: &[u8],
+    tally: Tally,
+    lines: &mut [u8],
+) -> Result<u8> {
+    let all = list_run(rt, name, named, bytes, tally, lines)?;
+    say_tally(rt, name, named, all)?;
+    Ok(status_of(all))
 }
 
 // What came before a read failed. A block that the failure cut is not looked at.
-fn list_cut(name: &[u8], named: bool, bytes: &[u8], tally: Tally, lines: &mut [u8]) -> u8 {
+fn list_cut(
+    rt: &impl Streams,
+    name: &[u8],
+    named: bool,
+    bytes: &[u8],
+    tally: Tally,
+    lines: &mut [u8],
+    error: Error,
+) -> Result<u8> {
     let whole = in_whole_blocks(bytes.len());
-    match list_run(name, named, first(bytes, whole), tally, lines) {
-        Listing::On(_) => fail(name),
-        Listing::Over(status) => status,
-    }
+    list_run(rt, name, named, first(bytes, whole), tally, lines)?;
+    Ok(fail(rt, name, error))
 }
 
 // A part that was filled so far.
 fn list_filled(
+    rt: &impl Streams,
     filled: Filled,
     name: &[u8],
     named: bool,
     part: &[u8],
     tally: Tally,
     lines: &mut [u8],
-) -> Listing {
+) -> Result<Listing> {
     match filled {
-        Filled::Full => list_run(name, named, part, tally, lines),
-        Filled::Ended(count) => {
-            Listing::Over(list_last(name, named, first(part, count), tally, lines))
+        Filled::Full => {
+            let all = list_run(rt, name, named, part, tally, lines)?;
+            Ok(Listing::On(all))
         }
-        Filled::Failed(count) => {
-            Listing::Over(list_cut(name, named, first(part, count), tally, lines))
+        Filled::Ended(count) => {
+            let status = list_last(rt, name, named, first(part, count), tally, lines)?;
+            Ok(Listing::Over(status))
+        }
+        Filled::Failed(count, error) => {
+            let status = list_cut(rt, name, named, first(part, count), tally, lines, error)?;
+            Ok(Listing::Over(status))
         }
     }
 }
 
-fn list_part(
-    fd: i32,
+fn list_part<R: Reads>(
+    rt: &impl Streams,
+    input: &mut R,
     name: &[u8],
     named: bool,
     part: &mut [u8],
     tally: Tally,
     lines: &mut [u8],
-) -> Listing {
-    let filled = fill(fd, part);
-    list_filled(filled, name, named, part, tally, lines)
+) -> Result<Listing> {
+    let filled = fill(input, part);
+    list_filled(rt, filled, name, named, part, tally, lines)
 }
 
-// Nothing says that a file ends, so the parts are counted down from a number that no file uses up.
-fn list_parts(fd: i32, name: &[u8], named: bool) -> u8 {
-    let mut part_space = io::large_buffer();
-    let part: &mut [u8] = &mut part_space;
-    let mut lines_space = io::large_buffer();
-    let lines: &mut [u8] = &mut lines_space;
+// Nothing says that a file ends, but no file has so many parts.
+fn list_parts<R: Reads>(rt: &impl Streams, input: &mut R, name: &[u8], named: bool) -> Result<u8> {
+    let mut part = [0u8; PART];
+    let mut lines = [0u8; LINES];
     let mut tally = Tally {
         blocks: 0,
         bad: 0,
         overflowed: 0,
     };
-    let mut turns: u64 = 18446744073709551615;
-    while 0 < turns {
-        match list_part(fd, name, named, part, tally, lines) {
+    for _ in 0..u64::MAX {
+        match list_part(rt, input, name, named, &mut part, tally, &mut lines)? {
             Listing::On(now_tally) => tally = now_tally,
-            Listing::Over(status) => return status,
+            Listing::Over(status) => return Ok(status),
         }
-        turns = turns - 1;
     }
-    WELL
+    Ok(WELL)
 }
 
-pub(crate) fn read_parts(fd: i32, name: &[u8], named: bool) -> u8 {
-    if say_columns(name, named) {
-        return list_parts(fd, name, named);
-    }
-    UNWRITTEN
+pub(crate) fn read_parts<R: Reads>(
+    rt: &impl Streams,
+    input: &mut R,
+    name: &[u8],
+    named: bool,
+) -> Result<u8> {
+    say_columns(rt, name, named)?;
+    list_parts(rt, input, name, named)
 }

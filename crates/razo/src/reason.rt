@@ -1,5 +1,6 @@
 // Refusals in words.
 use crate::lists::line_of;
+use crate::system::Streams;
 use crate::text::{complain_form, first, put_form};
 use checked::refusal::Refusal;
 use lines::put::word;
@@ -43,10 +44,15 @@ pub(crate) fn reason(line: &mut [u8], from: usize, refusal: Refusal) -> usize {
 }
 
 // One line on standard error about a file: a form with its numbers, and then a refusal.
-pub(crate) fn complain_refusal(name: &[u8], form: &[u8], numbers: &[u64], refusal: Refusal) -> u8 {
-    let mut space = [0u8; 128];
-    let why: &mut [u8] = &mut space;
-    let mut at = reason(why, 0, refusal);
-    at = word(why, at, b"\n");
-    complain_form(name, form, numbers, first(why, at))
+pub(crate) fn complain_refusal(
+    rt: &impl Streams,
+    name: &[u8],
+    form: &[u8],
+    numbers: &[u64],
+    refusal: Refusal,
+) -> u8 {
+    let mut why = [0u8; 128];
+    let mut at = reason(&mut why, 0, refusal);
+    at = word(&mut why, at, b"\n");
+    complain_form(rt, name, form, numbers, first(&why, at))
 }

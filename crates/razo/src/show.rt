@@ -1,11 +1,13 @@
 // What a run answers, in lines.
 use crate::reason::reason;
-use crate::status::{FOUND, WELL, told};
+use crate::status::{FOUND, WELL};
+use crate::system::Streams;
 use crate::text::{count_set, first, put_form, write_out};
 use checked::refusal::Refusal;
 use checked::types::Checked64;
 use lines::put::{number, word};
 use recipe::types::{Answer, Run};
+use std::io;
 use steps::types::{Logarithm, Phase, Power};
 
 fn put_value(line: &mut [u8], at: usize, value: Checked64) -> usize {
@@ -49,10 +51,7 @@ fn put_refused(line: &mut [u8], refusal: Refusal, place: u64, steps: u64) -> usi
 
 // What a has more than b.
 fn more(a: u64, b: u64) -> u64 {
-    if a < b {
-        return 0;
-    }
-    a - b
+    a.saturating_sub(b)
 }
 
 // How many values are on hand after the items done: each literal added one, and each operation took one away. Within a
@@ -83,13 +82,11 @@ fn put_places(
     held: u64,
 ) -> usize {
     let mut at = from;
-    let mut i: usize = 0;
-    while i < 32 {
+    for i in 0..32 {
         if held <= i as u64 {
             return at;
         }
         at = put_hand_place(line, at, numbers[i], marks[i]);
-        i = i + 1;
     }
     at
 }
@@ -179,10 +176,10 @@ fn status_of(answer: Answer) -> u8 {
 }
 
 // The run of the recipe whose kinds are lent. It gives the status.
-pub(crate) fn show(run: Run, kinds: &[u8]) -> u8 {
+pub(crate) fn show(rt: &impl Streams, run: Run, kinds: &[u8]) -> io::Result<u8> {
     let answer = run.answer;
-    let mut space = io::buffer();
-    let line: &mut [u8] = &mut space;
-    let at = put_run(line, run, kinds);
-    told(write_out(line, at), status_of(answer))
+    let mut line = [0u8; 4096];
+    let at = put_run(&mut line, run, kinds);
+    write_out(rt, &line, at)?;
+    Ok(status_of(answer))
 }

@@ -1,4 +1,6 @@
 // How a command ended, in a number. Of several files the worst counts, which is the greatest.
+use std::fs::{Files, OpenOptions};
+use std::io::Write;
 
 pub(crate) const WELL: u8 = 0;
 
@@ -8,33 +10,26 @@ pub(crate) const FOUND: u8 = 1;
 // Something was wrong with the call or a file, and a line on standard error says what.
 pub(crate) const WRONG: u8 = 2;
 
-// Standard output takes no more, so that no further file is looked into. Whoever called is told that something was wrong.
-pub(crate) const UNWRITTEN: u8 = 3;
+// Whoever read standard output has closed it. No command ends so: it is said to the script alone, which ends by the signal
+// PIPE, or says why where that is ignored. The program itself gets no such signal.
+pub(crate) const CLOSED: u8 = 3;
 
 pub(crate) fn worse(a: u8, b: u8) -> u8 {
-    if a < b {
-        return b;
-    }
-    a
+    a.max(b)
 }
 
-// The status where lines were to be written first.
-pub(crate) fn told(written: bool, status: u8) -> u8 {
-    if written {
-        return status;
+// Says the status as a digit on descriptor 3, where the script `razo` reads it. std opens no descriptor by its number, but
+// the system has a name for each.
+pub(crate) fn say_status(files: &impl Files, status: u8) {
+    let digit = match status {
+        WELL => b'0',
+        FOUND => b'1',
+        CLOSED => b'3',
+        _ => b'2',
+    };
+    let mut options = OpenOptions::new();
+    options.append(true);
+    if let Ok(mut script) = options.open(files, "/proc/self/fd/3") {
+        let _ = script.write_all(&[digit]);
     }
-    UNWRITTEN
-}
-
-// A program of the kit can't end with a status of its own. So it says the status as a digit on descriptor 3, where the
-// script `razo` reads it.
-pub(crate) fn say_status(status: u8) {
-    let mut digit = b'2';
-    if status == WELL {
-        digit = b'0';
-    }
-    if status == FOUND {
-        digit = b'1';
-    }
-    io::write_all(3, &[digit]);
 }

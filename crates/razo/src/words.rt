@@ -21,18 +21,12 @@ fn kind_of(said: &[u8]) -> u8 {
 }
 
 fn is_decimal(said: &[u8]) -> bool {
-    let mut i = 0;
-    while i < said.len() {
-        let byte = said[i];
-        if byte < b'0' {
+    for byte in said {
+        if !byte.is_ascii_digit() {
             return false;
         }
-        if b'9' < byte {
-            return false;
-        }
-        i = i + 1;
     }
-    0 < said.len()
+    !said.is_empty()
 }
 
 // One digit more. A number that is too large for 64 bits is overflowed, as everywhere.
@@ -46,10 +40,8 @@ fn with_digit(number: Checked64, byte: u8) -> Checked64 {
 // The number that decimal digits stand for.
 fn value_of(digits: &[u8]) -> Checked64 {
     let mut number = Checked64::Fits(0);
-    let mut i = 0;
-    while i < digits.len() {
-        number = with_digit(number, digits[i]);
-        i = i + 1;
+    for byte in digits {
+        number = with_digit(number, *byte);
     }
     number
 }

@@ -1,21 +1,24 @@
 // Blocks from the words of a file, part by part.
-use crate::file::{Filled, count_on, fill};
+use crate::file::{Filled, PART, count_on, fill};
 use crate::reason::complain_refusal;
-use crate::status::{WELL, WRONG, told};
-use crate::text::{after, complain, fail, first, put_form, same, write_out};
+use crate::status::{WELL, WRONG};
+use crate::system::Streams;
+use crate::text::{LONGEST_WORD, after, complain, fail, first, put_form, same, write_out};
 use crate::words::{Word, word_of};
 use checked::refusal::Refusal;
 use lines::put::word;
+use std::io;
+use std::io::Read;
 use write::types::Write;
 use write::write::write;
 
-// At most the values of so many full blocks wait to be written, which are so many: a large buffer holds the blocks.
+// At most the values of so many full blocks wait to be written, which are so many.
 const BLOCKS: u64 = 128;
 
 const VALUES: usize = 7040;
 
-// As long as a word of the command line may be.
-const LONGEST_WORD: usize = 4096;
+// The bytes of these blocks.
+const RUN: usize = 65536;
 
 pub(crate) const LARGEST_BLOCK_NUMBER: u64 = 4294967295;
 
@@ -71,30 +74,32 @@ fn said_by(said: &[u8]) -> Said {
 }
 
 // A word that is wrong, by its line.
-fn complain_at(name: &[u8], line: u64, said: &[u8], behind: &[u8]) -> u8 {
-    let mut space = [0u8; 4352];
-    let what: &mut [u8] = &mut space;
-    let mut at = put_form(what, 0, b": line #: '", &[line]);
-    at = word(what, at, said);
-    at = word(what, at, behind);
-    complain(b"razo: ", name, first(what, at))
+fn complain_at(rt: &impl Streams, name: &[u8], line: u64, said: &[u8], behind: &[u8]) -> u8 {
+    let mut what = [0u8; 4352];
+    let mut at = put_form(&mut what, 0, b": line #: '", &[line]);
+    at = word(&mut what, at, said);
+    at = word(&mut what, at, behind);
+    complain(rt, b"razo: ", name, first(&what, at))
 }
 
-fn complain_said(name: &[u8], line: u64, said: &[u8]) -> u8 {
+fn complain_said(rt: &impl Streams, name: &[u8], line: u64, said: &[u8]) -> u8 {
     match said_by(said) {
         Said::TooLong => complain_at(
+            rt,
             name,
             line,
             first(said, 32),
             b"'.. is too long: words have at most 4096 bytes\n",
         ),
         Said::TooLarge => complain_at(
+            rt,
             name,
             line,
             said,
             b"' is too large: numbers are below 2^64\n",
         ),
         _ => complain_at(
+            rt,
             name,
             line,
             said,
@@ -104,10 +109,7 @@ fn complain_said(name: &[u8], line: u64, said: &[u8]) -> u8 {
 }
 
 fn is_white(byte: u8) -> bool {
-    match byte {
-        b' ' | b'\t' | b'\n' | b'\r' => true,
-        _ => false,
-    }
+    matches!(byte, b' ' | b'\t' | b'\n' | b'\r')
 }
 
 // The line after a byte.
@@ -121,12 +123,10 @@ fn line_past(line: u64, byte: u8) -> u64 {
 // The same, but for what taking words changes.
 fn moved(so_far: Progress, from: usize, line: u64, held: usize) -> Progress {
     Progress {
-        from: from,
-        to: so_far.to,
-        ended: so_far.ended,
-        line: line,
-        held: held,
-        next: so_far.next,
+        from,
+        line,
+        held,
+        ..so_far
     }
 }
 
@@ -171,25 +171,18 @@ fn take_words(
 
 // Moves the bytes of a part from a place on to its beginning, and gives how many they are.
 fn keep(part: &mut [u8], start: usize) -> usize {
-    let mut from = start;
-    let mut to = 0;
-    while from < part.len() {
-        part[to] = part[from];
-        from = from + 1;
-        to = to + 1;
-    }
-    to
+    let start = start.min(part.len());
+    part.copy_within(start.., 0);
+    part.len() - start
 }
 
 // From the beginning of a part that is filled so far.
 fn begun(so_far: Progress, to: usize, ended: bool) -> Progress {
     Progress {
         from: 0,
-        to: to,
-        ended: ended,
-        line: so_far.line,
-        held: so_far.held,
-        next: so_far.next,
+        to,
+        ended,
+        ..so_far
     }
 }
 
@@ -203,105 +196,125 @@ fn last_part(part: &mut [u8], so_far: Progress, count: usize) -> Writing {
 }
 
 // The next part. It begins with the word that the end of the one before cut, unless that is too long already.
-fn next_part(fd: i32, name: &[u8], part: &mut [u8], so_far: Progress) -> Writing {
+fn next_part<R: Read>(
+    rt: &impl Streams,
+    input: &mut R,
+    name: &[u8],
+    part: &mut [u8],
+    so_far: Progress,
+) -> Writing {
     let cut = keep(part, so_far.from);
     if LONGEST_WORD < cut {
-        return Writing::Over(complain_said(name, so_far.line, first(part, cut)));
+        return Writing::Over(complain_said(rt, name, so_far.line, first(part, cut)));
     }
     if part.len() < cut {
         return Writing::Over(WRONG);
     }
-    match fill(fd, &mut part[cut..]) {
+    match fill(input, &mut part[cut..]) {
         Filled::Full => Writing::On(begun(so_far, part.len(), false)),
-        Filled::Ended(more) => {
-            last_part(part, so_far, count_on(cut as u64, more as u64) as usize)
-        }
-        Filled::Failed(_) => Writing::Over(fail(name)),
+        Filled::Ended(more) => last_part(part, so_far, cut.saturating_add(more)),
+        Filled::Failed(_, error) => Writing::Over(fail(rt, name, error)),
     }
 }
 
 // Writes the blocks of the first values, and gives the status. Where there is no value, the library refuses.
-fn put_out(name: &[u8], numbers: &[u64], marks: &[u8], held: usize, next: u64) -> u8 {
+fn put_out(
+    rt: &impl Streams,
+    name: &[u8],
+    numbers: &[u64],
+    marks: &[u8],
+    held: usize,
+    next: u64,
+) -> io::Result<u8> {
     if LARGEST_BLOCK_NUMBER < next {
-        return complain_refusal(name, b": ", &[0], Refusal::BlockNumberTooLarge);
+        let refusal = Refusal::BlockNumberTooLarge;
+        return Ok(complain_refusal(rt, name, b": ", &[0], refusal));
     }
     if numbers.len() < held {
-        return WRONG;
+        return Ok(WRONG);
     }
     if marks.len() < held {
-        return WRONG;
+        return Ok(WRONG);
     }
-    let mut space = io::large_buffer();
-    let run: &mut [u8] = &mut space;
-    match write(&numbers[..held], &marks[..held], next as u32, run) {
-        Write::Length(length) => told(write_out(run, length as usize), WELL),
-        Write::Refused(refusal, _) => complain_refusal(name, b": ", &[0], refusal),
+    let mut run = [0u8; RUN];
+    match write(&numbers[..held], &marks[..held], next as u32, &mut run) {
+        Write::Length(length) => {
+            write_out(rt, &run, length as usize)?;
+            Ok(WELL)
+        }
+        Write::Refused(refusal, _) => Ok(complain_refusal(rt, name, b": ", &[0], refusal)),
     }
 }
 
 // Room for further values: the blocks of those that wait are written.
-fn make_room(name: &[u8], numbers: &[u64], marks: &[u8], so_far: Progress) -> Writing {
-    let status = put_out(name, numbers, marks, so_far.held, so_far.next);
+fn make_room(
+    rt: &impl Streams,
+    name: &[u8],
+    numbers: &[u64],
+    marks: &[u8],
+    so_far: Progress,
+) -> io::Result<Writing> {
+    let status = put_out(rt, name, numbers, marks, so_far.held, so_far.next)?;
     if status != WELL {
-        return Writing::Over(status);
+        return Ok(Writing::Over(status));
     }
-    Writing::On(Progress {
-        from: so_far.from,
-        to: so_far.to,
-        ended: so_far.ended,
-        line: so_far.line,
+    Ok(Writing::On(Progress {
         held: 0,
         next: count_on(so_far.next, BLOCKS),
-    })
+        ..so_far
+    }))
 }
 
 // What there is to do once words were taken.
-fn proceed(
-    fd: i32,
+fn proceed<R: Read>(
+    rt: &impl Streams,
+    input: &mut R,
     name: &[u8],
     part: &mut [u8],
     taken: Taken,
     numbers: &[u64; VALUES],
     marks: &[u8; VALUES],
-) -> Writing {
+) -> io::Result<Writing> {
     match taken {
         Taken::All(so_far) => {
             if so_far.ended {
-                return Writing::Over(put_out(name, numbers, marks, so_far.held, so_far.next));
+                let status = put_out(rt, name, numbers, marks, so_far.held, so_far.next)?;
+                return Ok(Writing::Over(status));
             }
-            next_part(fd, name, part, so_far)
+            Ok(next_part(rt, input, name, part, so_far))
         }
-        Taken::Full(so_far) => make_room(name, numbers, marks, so_far),
-        Taken::Wrong(so_far, end) => Writing::Over(complain_said(
-            name,
-            so_far.line,
-            after(first(part, end), so_far.from),
-        )),
+        Taken::Full(so_far) => make_room(rt, name, numbers, marks, so_far),
+        Taken::Wrong(so_far, end) => {
+            let said = after(first(part, end), so_far.from);
+            Ok(Writing::Over(complain_said(rt, name, so_far.line, said)))
+        }
     }
 }
 
-// Nothing says that a file ends, so the turns are counted down from a number that no file uses up.
-pub(crate) fn write_parts(fd: i32, name: &[u8], number: u64) -> u8 {
-    let mut space = io::large_buffer();
-    let part: &mut [u8] = &mut space;
+// Nothing says that a file ends, but no file has so many words.
+pub(crate) fn write_parts<R: Read>(
+    rt: &impl Streams,
+    input: &mut R,
+    name: &[u8],
+    number: u64,
+) -> io::Result<u8> {
+    let mut part = [0u8; PART];
     let mut numbers = [0u64; VALUES];
     let mut marks = [0u8; VALUES];
     let mut so_far = Progress {
-        from: part.len(),
-        to: part.len(),
+        from: PART,
+        to: PART,
         ended: false,
         line: 1,
         held: 0,
         next: number,
     };
-    let mut turns: u64 = 18446744073709551615;
-    while 0 < turns {
-        let taken = take_words(first(part, so_far.to), so_far, &mut numbers, &mut marks);
-        match proceed(fd, name, part, taken, &numbers, &marks) {
+    for _ in 0..u64::MAX {
+        let taken = take_words(first(&part, so_far.to), so_far, &mut numbers, &mut marks);
+        match proceed(rt, input, name, &mut part, taken, &numbers, &marks)? {
             Writing::On(now) => so_far = now,
-            Writing::Over(status) => return status,
+            Writing::Over(status) => return Ok(status),
         }
-        turns = turns - 1;
     }
-    WELL
+    Ok(WELL)
 }
