@@ -4,11 +4,11 @@ use std::io;
 use std::io::Write;
 
 // Longer than any text that the system has for an error.
-const LONGEST: usize = 128;
+const LONGEST_TEXT: usize = 128;
 
 // What failed, a colon and the system's text for the error, without the error's number, which std puts after it.
 pub(crate) fn tell<E: Write>(errors: &mut E, what: &str, error: io::Error) {
-    let text = InlineText::<LONGEST>::of(error);
+    let text = InlineText::<LONGEST_TEXT>::of(error);
     let text = text.as_str();
     let reason = match text.split_once(" (os error ") {
         Some((reason, _)) => reason,
