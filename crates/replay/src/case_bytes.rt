@@ -26,9 +26,7 @@ pub(crate) fn long(bytes: &[u8], at: usize) -> u64
 pub(crate) fn longs(bytes: &[u8], from: usize, numbers: &mut [u64])
     requires { from + 8 * length numbers.old ≤ length bytes.now }
 {
-    let mut i = 0;
-    while i < numbers.len() {
-        numbers[i] = long(bytes, from + 8 * i);
-        i = i + 1;
+    for (i, number) in numbers.iter_mut().enumerate() {
+        *number = long(bytes, from + 8 * i);
     }
 }

@@ -1,9 +1,11 @@
 // Row 6: quotient and remainder of signed numbers, at each width. A case is asked `fits` first, so no number is cut where it is
 // narrowed.
+use crate::line::Output;
 use crate::types::{Case, Fault};
 use crate::{answers, case_bytes, line};
 use signed::divide;
 use signed::types::{Signed8, Signed16, Signed32, Signed64};
+use std::io::Write;
 
 // The code, the place, the sign and the size of a number.
 fn number(n: i64) -> [u64; 4] {
@@ -156,7 +158,7 @@ fn divided(width: u8, which: u8, a: i64, b: i64) -> [u64; 4] {
 }
 
 // b width, b which (0 quotient, 1 remainder), q a, q b in two's complement.
-pub(crate) fn replay(bytes: &[u8], out: &mut [u8], at: usize) -> Case {
+pub(crate) fn replay<W: Write>(bytes: &[u8], out: &mut Output<W>) -> Case {
     if bytes.len() < 19 {
         return Case::Malformed(Fault::CutShort);
     }
@@ -174,8 +176,6 @@ pub(crate) fn replay(bytes: &[u8], out: &mut [u8], at: usize) -> Case {
         return Case::Malformed(Fault::NotAllowed);
     }
     let answer = divided(width, which, a, b);
-    Case::Answered {
-        used: 19,
-        at: line::whole(out, at, &answer),
-    }
+    line::whole(out, &answer);
+    Case::Answered { used: 19 }
 }

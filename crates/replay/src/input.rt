@@ -1,6 +1,8 @@
 // The input in large parts: a window of bytes that were read and not yet used.
 ghost use Rattle.std.specs.Prelude.{◌≤◌, length};
-ghost use Rattle.io.specs.Counts.{IsPrefixLen};
+
+use crate::failure;
+use std::io::{Read, Write};
 
 // The longest case: row 12 with the thirteen bytes before its lists, and as many kinds, lefts and rights as it may have.
 const LONGEST: usize = 139277;
@@ -14,22 +16,28 @@ pub struct Window {
 }
 
 // One read, and how many bytes it gave: 0 at the end, and where it fails.
-fn read_some(tail: &mut [u8]) -> usize
-    ensures { IsPrefixLen result tail.new }
+fn read_some<R: Read, E: Write>(reader: &mut R, tail: &mut [u8], errors: &mut E) -> usize
+    ensures { result ≤ length tail.new }
 {
-    let got = libc::read(libc::STDIN_FILENO, tail);
-    if got < 0 {
-        os::fail(b"read");
-        return 0;
+    match reader.read(tail) {
+        Ok(count) => count,
+        Err(error) => {
+            failure::tell(errors, "read", error);
+            0
+        }
     }
-    io::count(got, tail)
 }
 
 // Reads from `end` on until the list is full or the input ends.
-fn read_from(input: &mut [u8], end: usize) -> Window {
+fn read_from<R: Read, E: Write>(
+    reader: &mut R,
+    input: &mut [u8],
+    end: usize,
+    errors: &mut E,
+) -> Window {
     let mut next = end;
     while next < input.len() {
-        let more = read_some(&mut input[next..]);
+        let more = read_some(reader, &mut input[next..], errors);
         if more == 0 {
             return Window {
                 start: 0,
@@ -37,7 +45,7 @@ fn read_from(input: &mut [u8], end: usize) -> Window {
                 is_open: false,
             };
         }
-        next = next + more;
+        next += more;
     }
     Window {
         start: 0,
@@ -46,19 +54,13 @@ fn read_from(input: &mut [u8], end: usize) -> Window {
     }
 }
 
-// Moves the bytes from `start` up to `end` to the front.
-fn move_to_front(input: &mut [u8], start: usize, end: usize)
-    requires { end ≤ length input.old }
-{
-    let mut i = start;
-    while i < end {
-        input[i - start] = input[i];
-        i = i + 1;
-    }
-}
-
 // A window that holds the longest case, or all that is left of the input.
-pub(crate) fn fill(input: &mut [u8], window: Window) -> Window {
+pub(crate) fn fill<R: Read, E: Write>(
+    reader: &mut R,
+    input: &mut [u8],
+    window: Window,
+    errors: &mut E,
+) -> Window {
     let start = window.start;
     let end = window.end;
     if !window.is_open {
@@ -73,6 +75,6 @@ pub(crate) fn fill(input: &mut [u8], window: Window) -> Window {
     if LONGEST <= end - start {
         return window;
     }
-    move_to_front(input, start, end);
-    read_from(input, end - start)
+    input.copy_within(start..end, 0);
+    read_from(reader, input, end - start, errors)
 }

@@ -2,10 +2,12 @@
 // bits of floats.
 ghost use Rattle.std.specs.Prelude.{◌*◌, ◌≤◌, length};
 
+use crate::line::Output;
 use crate::types::{BYTE_BEFORE, Case, Fault, MOST_VALUES, NUMBER_BEFORE};
 use crate::{answers, case_bytes, line};
 use level::scan::scan;
 use level::types::LevelScan;
+use std::io::Write;
 use turn::turn::turn;
 use turn::types::Turn;
 
@@ -29,26 +31,24 @@ fn bits_of(x: f32) -> u64 {
 fn put_floats(bytes: &[u8], level: &mut [f32])
     requires { 4 * length level.old ≤ length bytes.now }
 {
-    let mut i = 0;
-    while i < level.len() {
-        level[i] = float_of(case_bytes::word(bytes, 4 * i));
-        i = i + 1;
+    for (i, reading) in level.iter_mut().enumerate() {
+        *reading = float_of(case_bytes::word(bytes, 4 * i));
     }
 }
 
 // The numbers of a level's line. Its readings are still bytes of the case.
-fn scanned(bytes: &[u8], ground: &[u8], level: &mut [f32]) -> [u64; 4]
+fn scanned(bytes: &[u8], grounds: &[u8], level: &mut [f32]) -> [u64; 4]
     requires { 4 * length level.old ≤ length bytes.now }
 {
     put_floats(bytes, level);
-    match scan(level, ground) {
+    match scan(level, grounds) {
         LevelScan::Ranged(extent) => [0, 0, bits_of(extent.least), bits_of(extent.greatest)],
         LevelScan::Refused(refusal, place) => answers::refused(refusal, place),
     }
 }
 
 // h n, h k, n × w of float bits, k ground marks.
-pub(crate) fn replay_scan(bytes: &[u8], out: &mut [u8], at: usize) -> Case {
+pub(crate) fn replay_scan<W: Write>(bytes: &[u8], out: &mut Output<W>) -> Case {
     if bytes.len() < 5 {
         return Case::Malformed(Fault::CutShort);
     }
@@ -71,10 +71,8 @@ pub(crate) fn replay_scan(bytes: &[u8], out: &mut [u8], at: usize) -> Case {
         &bytes[from..used],
         &mut level[0..reading_count],
     );
-    Case::Answered {
-        used: used,
-        at: line::whole(out, at, &answer),
-    }
+    line::whole(out, &answer);
+    Case::Answered { used }
 }
 
 fn shown(answer: Turn) -> [u64; 2] {
@@ -85,27 +83,26 @@ fn shown(answer: Turn) -> [u64; 2] {
 }
 
 // The line of a level, whose readings are still bytes of the case, and of the two lent lists.
-fn put_turning(
+fn put_turning<W: Write>(
     bytes: &[u8],
-    ground: &[u8],
+    grounds: &[u8],
     level: &mut [f32],
     numbers: &mut [u64],
     marks: &mut [u8],
-    out: &mut [u8],
-    at: usize,
-) -> usize
+    out: &mut Output<W>,
+)
     requires { 4 * length level.old ≤ length bytes.now }
 {
     put_floats(bytes, level);
-    let answer = shown(turn(level, ground, numbers, marks));
-    let at = line::start(out, at, &answer);
-    let at = line::further(out, at, numbers);
-    let at = line::further_bytes(out, at, marks);
-    line::end(out, at)
+    let answer = shown(turn(level, grounds, numbers, marks));
+    line::start(out, &answer);
+    line::further(out, numbers);
+    line::further_bytes(out, marks);
+    line::end(out);
 }
 
 // h n, h k, h i, h j, n × w of float bits, k ground marks; the lent lists have i and j elements.
-pub(crate) fn replay_turn(bytes: &[u8], out: &mut [u8], at: usize) -> Case {
+pub(crate) fn replay_turn<W: Write>(bytes: &[u8], out: &mut Output<W>) -> Case {
     if bytes.len() < 9 {
         return Case::Malformed(Fault::CutShort);
     }
@@ -133,14 +130,13 @@ pub(crate) fn replay_turn(bytes: &[u8], out: &mut [u8], at: usize) -> Case {
     let mut level = [0f32; MOST_VALUES];
     let mut numbers = [NUMBER_BEFORE; MOST_VALUES];
     let mut marks = [BYTE_BEFORE; MOST_VALUES];
-    let at = put_turning(
+    put_turning(
         &bytes[9..from],
         &bytes[from..used],
         &mut level[0..reading_count],
         &mut numbers[0..number_count],
         &mut marks[0..mark_count],
         out,
-        at,
     );
-    Case::Answered { used: used, at: at }
+    Case::Answered { used }
 }

@@ -6,6 +6,7 @@
 mod answers;
 mod case_bytes;
 mod divisions;
+mod failure;
 mod input;
 mod levels;
 mod line;
@@ -22,73 +23,62 @@ mod whole_rows;
 mod writes;
 
 use input::Window;
+use line::Output;
+use std::io::{Read, Write};
 use types::{Case, Fault, MOST_ELEMENTS};
 
-// How far the replay is: the window on the input, the place in the output, and whether there is more to do.
+// How far the replay is: the window on the input, and whether there is more to do.
 #[derive(Clone, Copy)]
 struct State {
     window: Window,
-    at: usize,
     goes_on: bool,
 }
 
 // A case that is lent none of the lists that stay from case to case.
-fn replay_short(bytes: &[u8], row: u8, out: &mut [u8], at: usize) -> Case {
+fn replay_short<W: Write>(bytes: &[u8], row: u8, out: &mut Output<W>) -> Case {
     match row {
-        4 => searches::replay(bytes, out, at),
-        5 => operations::replay(bytes, out, at),
-        6 => divisions::replay(bytes, out, at),
-        7 => power_fits::replay(bytes, out, at),
-        8 => plain_numbers::replay(bytes, out, at),
-        9 => writes::replay(bytes, out, at),
-        10 => levels::replay_scan(bytes, out, at),
-        11 => levels::replay_turn(bytes, out, at),
-        12 => whole_rows::replay(bytes, out, at),
+        4 => searches::replay(bytes, out),
+        5 => operations::replay(bytes, out),
+        6 => divisions::replay(bytes, out),
+        7 => power_fits::replay(bytes, out),
+        8 => plain_numbers::replay(bytes, out),
+        9 => writes::replay(bytes, out),
+        10 => levels::replay_scan(bytes, out),
+        11 => levels::replay_turn(bytes, out),
+        12 => whole_rows::replay(bytes, out),
         _ => Case::Malformed(Fault::UnknownRow),
     }
 }
 
 // A case, by its first byte.
-fn replay_case(
+fn replay_case<W: Write>(
     bytes: &[u8],
     numbers: &mut [u64],
     marks: &mut [u8],
-    out: &mut [u8],
-    at: usize,
+    out: &mut Output<W>,
 ) -> Case {
     if bytes.len() == 0 {
         return Case::Malformed(Fault::CutShort);
     }
     let row = bytes[0];
     match row {
-        1 => runs::replay(bytes, numbers, out, at),
-        2 => scans::replay(bytes, numbers, out, at),
-        3 => reads::replay(bytes, numbers, marks, out, at),
-        _ => replay_short(bytes, row, out, at),
-    }
-}
-
-fn write_fault(fault: Fault) -> bool {
-    match fault {
-        Fault::CutShort => io::write_all(libc::STDERR_FILENO, b": cut short\n"),
-        Fault::TooLarge => io::write_all(libc::STDERR_FILENO, b": too large\n"),
-        Fault::UnknownRow => io::write_all(libc::STDERR_FILENO, b": unknown row\n"),
-        Fault::NotAllowed => io::write_all(libc::STDERR_FILENO, b": not allowed\n"),
+        1 => runs::replay(bytes, numbers, out),
+        2 => scans::replay(bytes, numbers, out),
+        3 => reads::replay(bytes, numbers, marks, out),
+        _ => replay_short(bytes, row, out),
     }
 }
 
 // Says on standard error which case is malformed, counted from 1, and why.
-fn complain(case: u64, fault: Fault) {
-    io::write_all(libc::STDERR_FILENO, b"replay: case ");
-    io::print_decimal(libc::STDERR_FILENO, case);
-    write_fault(fault);
+fn complain<E: Write>(errors: &mut E, case: u64, fault: Fault) {
+    let _ = writeln!(errors, "replay: case {case}: {fault}");
 }
 
 // Nothing more to do: what waits is written out.
-fn finish(window: Window, out: &[u8], at: usize) -> State {
+fn finish<W: Write>(window: Window, out: &mut Output<W>) -> State {
+    line::flush(out);
     State {
-        window: window,
-        at: line::flush(out, at),
+        window,
         goes_on: false,
     }
 }
@@ -103,82 +93,103 @@ fn advance(window: Window, used: usize) -> Window {
     if end - start < used {
         return Window {
             start: end,
-            end: end,
+            end,
             is_open: window.is_open,
         };
     }
     Window {
         start: start + used,
-        end: end,
+        end,
         is_open: window.is_open,
     }
 }
 
 // After a case: the next one, or the end.
-fn conclude(answer: Case, case: u64, window: Window, out: &mut [u8], at: usize) -> State {
+fn conclude<W: Write, E: Write>(
+    answer: Case,
+    case: u64,
+    window: Window,
+    out: &mut Output<W>,
+    errors: &mut E,
+) -> State {
     match answer {
-        Case::Answered { used, at } => State {
+        Case::Answered { used } => State {
             window: advance(window, used),
-            at: at,
-            goes_on: at <= out.len(),
+            goes_on: out.failure().is_none(),
         },
         Case::Malformed(fault) => {
-            complain(case, fault);
-            let at = line::malformed(out, at);
-            finish(window, out, at)
+            complain(errors, case, fault);
+            line::malformed(out);
+            finish(window, out)
         }
     }
 }
 
 // The next case, or the end.
-fn next(
+fn next<R: Read, W: Write, E: Write>(
     state: State,
     case: u64,
+    reader: &mut R,
     input: &mut [u8],
     numbers: &mut [u64],
     marks: &mut [u8],
-    out: &mut [u8],
+    out: &mut Output<W>,
+    errors: &mut E,
 ) -> State {
-    let before = state.window;
-    let at = state.at;
-    let window = input::fill(input, before);
+    let window = input::fill(reader, input, state.window, errors);
     let start = window.start;
     let end = window.end;
     if end <= start {
-        return finish(window, out, at);
+        return finish(window, out);
     }
     // Never so: a window lies within the input.
     if input.len() < end {
-        return finish(window, out, at);
+        return finish(window, out);
     }
-    let answer = replay_case(&input[start..end], numbers, marks, out, at);
-    conclude(answer, case, window, out, at)
+    let answer = replay_case(&input[start..end], numbers, marks, out);
+    conclude(answer, case, window, out, errors)
 }
 
-// The number of turns is counted down from one that no input uses up, since a proved loop has to end.
-fn replay(input: &mut [u8], numbers: &mut [u64], marks: &mut [u8], out: &mut [u8]) {
+// No input has as many cases as the loop has turns, since a proved loop has to end.
+fn replay<R: Read, W: Write, E: Write>(
+    reader: &mut R,
+    input: &mut [u8],
+    numbers: &mut [u64],
+    marks: &mut [u8],
+    out: &mut Output<W>,
+    errors: &mut E,
+) {
     let window = Window {
         start: 0,
         end: 0,
         is_open: true,
     };
     let mut state = State {
-        window: window,
-        at: 0,
+        window,
         goes_on: true,
     };
-    let mut turns = u64::MAX;
-    while turns > 0 && state.goes_on {
-        let case = u64::MAX - turns + 1;
-        state = next(state, case, input, numbers, marks, out);
-        turns -= 1;
+    for turn in 0..u64::MAX {
+        state = next(state, turn + 1, reader, input, numbers, marks, out, errors);
+        if !state.goes_on {
+            break;
+        }
+    }
+    if let Some(error) = out.failure() {
+        failure::tell(errors, "write", error);
     }
 }
 
-fn main() {
+fn main(rt: HostRuntime) {
     let mut input = [0u8; 262144];
     let mut numbers = [0u64; MOST_ELEMENTS];
     let mut marks = [0u8; MOST_ELEMENTS];
-    let mut out = [0u8; 65536];
-    replay(&mut input, &mut numbers, &mut marks, &mut out);
+    let mut out = Output::new(rt.stdout());
+    replay(
+        &mut rt.stdin(),
+        &mut input,
+        &mut numbers,
+        &mut marks,
+        &mut out,
+        &mut rt.stderr(),
+    );
 }

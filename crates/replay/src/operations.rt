@@ -1,8 +1,10 @@
 // Row 5: one of the six operations at a width, by the width's own type.
+use crate::line::Output;
 use crate::types::{Case, Fault};
 use crate::{answers, case_bytes, line, values};
 use checked::types::{Answer64, Checked64};
 use narrow::types::{Answer8, Answer16, Answer32, Checked8, Checked16, Checked32};
+use std::io::Write;
 
 // ---- 8 bits
 
@@ -146,7 +148,7 @@ fn is_kind(kind: u8) -> bool {
 }
 
 // b width, b kind, b left's mark, q left, b right's mark, q right.
-pub(crate) fn replay(bytes: &[u8], out: &mut [u8], at: usize) -> Case {
+pub(crate) fn replay<W: Write>(bytes: &[u8], out: &mut Output<W>) -> Case {
     if bytes.len() < 21 {
         return Case::Malformed(Fault::CutShort);
     }
@@ -166,8 +168,6 @@ pub(crate) fn replay(bytes: &[u8], out: &mut [u8], at: usize) -> Case {
         return Case::Malformed(Fault::NotAllowed);
     }
     let shown = operation(width, kind, left_mark, left, right_mark, right);
-    Case::Answered {
-        used: 21,
-        at: line::whole(out, at, &shown),
-    }
+    line::whole(out, &shown);
+    Case::Answered { used: 21 }
 }

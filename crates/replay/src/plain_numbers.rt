@@ -1,8 +1,10 @@
 // Row 8: the plain number is asked of a checked value.
+use crate::line::Output;
 use crate::types::{Case, Fault};
 use crate::{answers, case_bytes, line, values};
 use checked::types::Plain64;
 use narrow::types::{Plain8, Plain16, Plain32};
+use std::io::Write;
 
 fn plain8(mark: u8, number: u64) -> [u64; 3] {
     match values::checked8(mark, number).unwrap() {
@@ -42,7 +44,7 @@ fn plain(width: u8, mark: u8, number: u64) -> [u64; 3] {
 }
 
 // b width, b mark, q number.
-pub(crate) fn replay(bytes: &[u8], out: &mut [u8], at: usize) -> Case {
+pub(crate) fn replay<W: Write>(bytes: &[u8], out: &mut Output<W>) -> Case {
     if bytes.len() < 11 {
         return Case::Malformed(Fault::CutShort);
     }
@@ -53,8 +55,6 @@ pub(crate) fn replay(bytes: &[u8], out: &mut [u8], at: usize) -> Case {
         return Case::Malformed(Fault::NotAllowed);
     }
     let shown = plain(width, mark, number);
-    Case::Answered {
-        used: 11,
-        at: line::whole(out, at, &shown),
-    }
+    line::whole(out, &shown);
+    Case::Answered { used: 11 }
 }

@@ -1,16 +1,16 @@
 // Row 7: whether a power fits 64 bits.
+use crate::line::Output;
 use crate::types::{Case, Fault};
 use crate::{case_bytes, line};
+use std::io::Write;
 
 // q base, q exponent.
-pub(crate) fn replay(bytes: &[u8], out: &mut [u8], at: usize) -> Case {
+pub(crate) fn replay<W: Write>(bytes: &[u8], out: &mut Output<W>) -> Case {
     if bytes.len() < 17 {
         return Case::Malformed(Fault::CutShort);
     }
     let fits = fit::power_fits(case_bytes::long(bytes, 1), case_bytes::long(bytes, 9));
     let answer = if fits { 1 } else { 0 };
-    Case::Answered {
-        used: 17,
-        at: line::whole(out, at, &[answer]),
-    }
+    line::whole(out, &[answer]);
+    Case::Answered { used: 17 }
 }

@@ -1,29 +1,13 @@
 // Row 3: a block is read into two lent lists, which are shown as they stand afterwards.
-use crate::types::{Case, Fault, MOST_ELEMENTS};
+use crate::line::Output;
+use crate::types::{Case, Fault, MOST_ELEMENTS, NUMBER_BEFORE};
 use crate::{answers, case_bytes, line};
 use block::read::read;
 use block::types::Read;
+use std::io::Write;
 
-// What stands in the lent lists before the reading. No block's mark is 9.
-const NUMBER_BEFORE: u64 = 7777777;
-
+// What stands in the lent list of marks before the reading. No block's mark is 9.
 const MARK_BEFORE: u8 = 9;
-
-fn set_numbers(numbers: &mut [u64]) {
-    let mut i = 0;
-    while i < numbers.len() {
-        numbers[i] = NUMBER_BEFORE;
-        i = i + 1;
-    }
-}
-
-fn set_marks(marks: &mut [u8]) {
-    let mut i = 0;
-    while i < marks.len() {
-        marks[i] = MARK_BEFORE;
-        i = i + 1;
-    }
-}
 
 fn shown(answer: Read) -> [u64; 4] {
     match answer {
@@ -33,29 +17,22 @@ fn shown(answer: Read) -> [u64; 4] {
 }
 
 // The line of a block and the two lent lists.
-fn put_reading(
-    block: &[u8],
-    numbers: &mut [u64],
-    marks: &mut [u8],
-    out: &mut [u8],
-    at: usize,
-) -> usize {
-    set_numbers(numbers);
-    set_marks(marks);
+fn put_reading<W: Write>(block: &[u8], numbers: &mut [u64], marks: &mut [u8], out: &mut Output<W>) {
+    numbers.fill(NUMBER_BEFORE);
+    marks.fill(MARK_BEFORE);
     let answer = shown(read(block, numbers, marks));
-    let at = line::start(out, at, &answer);
-    let at = line::further(out, at, numbers);
-    let at = line::further_bytes(out, at, marks);
-    line::end(out, at)
+    line::start(out, &answer);
+    line::further(out, numbers);
+    line::further_bytes(out, marks);
+    line::end(out);
 }
 
 // h n, h k, h j, n bytes of the block; the lent lists have k and j elements.
-pub(crate) fn replay(
+pub(crate) fn replay<W: Write>(
     bytes: &[u8],
     numbers: &mut [u64],
     marks: &mut [u8],
-    out: &mut [u8],
-    at: usize,
+    out: &mut Output<W>,
 ) -> Case {
     if bytes.len() < 7 {
         return Case::Malformed(Fault::CutShort);
@@ -76,12 +53,11 @@ pub(crate) fn replay(
     if bytes.len() < used {
         return Case::Malformed(Fault::CutShort);
     }
-    let at = put_reading(
+    put_reading(
         &bytes[7..used],
         &mut numbers[0..number_count],
         &mut marks[0..mark_count],
         out,
-        at,
     );
-    Case::Answered { used: used, at: at }
+    Case::Answered { used }
 }

@@ -1,9 +1,11 @@
 // Row 1: a recipe runs with an allowance.
+use crate::line::Output;
 use crate::types::{Case, Fault, MOST_ELEMENTS};
 use crate::{answers, case_bytes, line};
 use checked::types::Checked64;
 use recipe::run::run;
 use recipe::types::{Answer, Run};
+use std::io::Write;
 use steps::types::{Logarithm, Phase, Power};
 
 fn answer_of(answer: Answer) -> [u64; 4] {
@@ -43,34 +45,24 @@ fn phase_of(phase: Phase) -> [u64; 6] {
 }
 
 // Mark and number of each place, bottom first.
-fn put_hand(out: &mut [u8], at: usize, numbers: [u64; 32], marks: [u8; 32]) -> usize {
-    let mut after = at;
-    let mut i = 0;
-    while i < 32 {
-        after = line::next(out, after, answers::wide8(marks[i]));
-        after = line::next(out, after, numbers[i]);
-        i = i + 1;
+fn put_hand<W: Write>(out: &mut Output<W>, numbers: &[u64], marks: &[u8]) {
+    for (mark, number) in marks.iter().zip(numbers) {
+        line::next(out, answers::wide8(*mark));
+        line::next(out, *number);
     }
-    after
 }
 
-fn put_run(out: &mut [u8], at: usize, run: Run) -> usize {
-    let answer = run.answer;
-    let phase = run.phase;
-    let numbers = run.numbers;
-    let marks = run.marks;
-    let shown = answer_of(answer);
-    let at = line::start(out, at, &shown);
-    let at = line::next(out, at, run.steps);
-    let at = line::next(out, at, run.done);
-    let shown = phase_of(phase);
-    let at = line::further(out, at, &shown);
-    let at = put_hand(out, at, numbers, marks);
-    line::end(out, at)
+fn put_run<W: Write>(out: &mut Output<W>, run: Run) {
+    line::start(out, &answer_of(run.answer));
+    line::next(out, run.steps);
+    line::next(out, run.done);
+    line::further(out, &phase_of(run.phase));
+    put_hand(out, &run.numbers, &run.marks);
+    line::end(out);
 }
 
 // b width, q allowance, h n, h k, n bytes of kinds, k × q of numbers.
-pub(crate) fn replay(bytes: &[u8], numbers: &mut [u64], out: &mut [u8], at: usize) -> Case {
+pub(crate) fn replay<W: Write>(bytes: &[u8], numbers: &mut [u64], out: &mut Output<W>) -> Case {
     if bytes.len() < 14 {
         return Case::Malformed(Fault::CutShort);
     }
@@ -96,8 +88,6 @@ pub(crate) fn replay(bytes: &[u8], numbers: &mut [u64], out: &mut [u8], at: usiz
         &numbers[0..number_count],
         allowance,
     );
-    Case::Answered {
-        used: used,
-        at: put_run(out, at, answer),
-    }
+    put_run(out, answer);
+    Case::Answered { used }
 }

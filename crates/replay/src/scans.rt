@@ -1,8 +1,10 @@
 // Row 2: the range of a field.
+use crate::line::Output;
 use crate::types::{Case, Fault, MOST_ELEMENTS};
 use crate::{answers, case_bytes, line};
 use field::scan::scan;
 use field::types::Scan;
+use std::io::Write;
 
 fn shown(answer: Scan) -> [u64; 5] {
     match answer {
@@ -16,7 +18,7 @@ fn shown(answer: Scan) -> [u64; 5] {
 }
 
 // h n, h k, n × q of numbers, k marks.
-pub(crate) fn replay(bytes: &[u8], numbers: &mut [u64], out: &mut [u8], at: usize) -> Case {
+pub(crate) fn replay<W: Write>(bytes: &[u8], numbers: &mut [u64], out: &mut Output<W>) -> Case {
     if bytes.len() < 5 {
         return Case::Malformed(Fault::CutShort);
     }
@@ -35,8 +37,6 @@ pub(crate) fn replay(bytes: &[u8], numbers: &mut [u64], out: &mut [u8], at: usiz
     }
     case_bytes::longs(bytes, 5, &mut numbers[0..number_count]);
     let answer = shown(scan(&numbers[0..number_count], &bytes[from..used]));
-    Case::Answered {
-        used: used,
-        at: line::whole(out, at, &answer),
-    }
+    line::whole(out, &answer);
+    Case::Answered { used }
 }

@@ -1,8 +1,10 @@
 // Row 4: the first overflowed value of a run of blocks.
+use crate::line::Output;
 use crate::types::{Case, Fault, MOST_BYTES};
 use crate::{answers, case_bytes, line};
 use search::search::search;
 use search::types::Found;
+use std::io::Write;
 
 fn shown(answer: Found) -> [u64; 5] {
     match answer {
@@ -13,7 +15,7 @@ fn shown(answer: Found) -> [u64; 5] {
 }
 
 // w n, n bytes.
-pub(crate) fn replay(bytes: &[u8], out: &mut [u8], at: usize) -> Case {
+pub(crate) fn replay<W: Write>(bytes: &[u8], out: &mut Output<W>) -> Case {
     if bytes.len() < 5 {
         return Case::Malformed(Fault::CutShort);
     }
@@ -26,8 +28,6 @@ pub(crate) fn replay(bytes: &[u8], out: &mut [u8], at: usize) -> Case {
         return Case::Malformed(Fault::CutShort);
     }
     let answer = shown(search(&bytes[5..used]));
-    Case::Answered {
-        used: used,
-        at: line::whole(out, at, &answer),
-    }
+    line::whole(out, &answer);
+    Case::Answered { used }
 }

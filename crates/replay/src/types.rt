@@ -1,4 +1,5 @@
 // What a case comes to.
+use std::fmt;
 
 // The most elements that a list of a case has, but for rows 9 to 12. The lists that cases are given to use have as many.
 pub const MOST_ELEMENTS: usize = 4096;
@@ -27,9 +28,20 @@ pub enum Fault {
     NotAllowed,
 }
 
-// A case whose line is put, with how many of its bytes were used and the place after the line; or why it is malformed.
+impl fmt::Display for Fault {
+    fn fmt<W: fmt::Write>(&self, f: &mut fmt::Formatter<W>) -> fmt::Result {
+        match self {
+            Fault::CutShort => write!(f, "cut short"),
+            Fault::TooLarge => write!(f, "too large"),
+            Fault::UnknownRow => write!(f, "unknown row"),
+            Fault::NotAllowed => write!(f, "not allowed"),
+        }
+    }
+}
+
+// A case whose line is put, with how many of its bytes were used; or why it is malformed.
 #[derive(Clone, Copy)]
 pub enum Case {
-    Answered { used: usize, at: usize },
+    Answered { used: usize },
     Malformed(Fault),
 }

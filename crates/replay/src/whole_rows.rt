@@ -1,41 +1,40 @@
 // Row 12: a row of single operations. The lent lists are shown as they stand afterwards.
+use crate::line::Output;
 use crate::types::{BYTE_BEFORE, Case, Fault, MOST_VALUES, NUMBER_BEFORE};
 use crate::{answers, case_bytes, line};
 use rows::row::row;
+use std::io::Write;
 
 // The line of a row and of the three lent lists.
-fn put_row(
+fn put_row<W: Write>(
     kinds: &[u8],
     lefts: &[u64],
     rights: &[u64],
     numbers: &mut [u64],
     marks: &mut [u8],
     codes: &mut [u8],
-    out: &mut [u8],
-    at: usize,
-) -> usize {
+    out: &mut Output<W>,
+) {
     let answer = row(kinds, lefts, rights, numbers, marks, codes);
-    let at = line::start(out, at, &[answers::wide32(answer.number()), 0]);
-    let at = line::further(out, at, numbers);
-    let at = line::further_bytes(out, at, marks);
-    let at = line::further_bytes(out, at, codes);
-    line::end(out, at)
+    line::start(out, &[answers::wide32(answer.number()), 0]);
+    line::further(out, numbers);
+    line::further_bytes(out, marks);
+    line::further_bytes(out, codes);
+    line::end(out);
 }
 
 // As many numbers as the bytes have and the list takes.
 fn put_longs(bytes: &[u8], numbers: &mut [u64]) {
-    let mut i = 0;
-    while i < numbers.len() {
+    for (i, number) in numbers.iter_mut().enumerate() {
         if bytes.len() / 8 <= i {
             return;
         }
-        numbers[i] = case_bytes::long(bytes, 8 * i);
-        i = i + 1;
+        *number = case_bytes::long(bytes, 8 * i);
     }
 }
 
 // The line of a row whose lefts and rights are still bytes of the case.
-fn read_row(
+fn read_row<W: Write>(
     kinds: &[u8],
     first: &[u8],
     second: &[u8],
@@ -44,17 +43,16 @@ fn read_row(
     numbers: &mut [u64],
     marks: &mut [u8],
     codes: &mut [u8],
-    out: &mut [u8],
-    at: usize,
-) -> usize {
+    out: &mut Output<W>,
+) {
     put_longs(first, lefts);
     put_longs(second, rights);
-    put_row(kinds, lefts, rights, numbers, marks, codes, out, at)
+    put_row(kinds, lefts, rights, numbers, marks, codes, out);
 }
 
 // h n, h k, h j, h a, h b, h c, n kinds, k × q of lefts, j × q of rights; the lent lists have a numbers, b marks and c
 // codes.
-pub(crate) fn replay(bytes: &[u8], out: &mut [u8], at: usize) -> Case {
+pub(crate) fn replay<W: Write>(bytes: &[u8], out: &mut Output<W>) -> Case {
     if bytes.len() < 13 {
         return Case::Malformed(Fault::CutShort);
     }
@@ -93,7 +91,7 @@ pub(crate) fn replay(bytes: &[u8], out: &mut [u8], at: usize) -> Case {
     let mut numbers = [NUMBER_BEFORE; MOST_VALUES];
     let mut marks = [BYTE_BEFORE; MOST_VALUES];
     let mut codes = [BYTE_BEFORE; MOST_VALUES];
-    let at = read_row(
+    read_row(
         &bytes[13..left_from],
         &bytes[left_from..right_from],
         &bytes[right_from..used],
@@ -103,7 +101,6 @@ pub(crate) fn replay(bytes: &[u8], out: &mut [u8], at: usize) -> Case {
         &mut marks[0..mark_count],
         &mut codes[0..code_count],
         out,
-        at,
     );
-    Case::Answered { used: used, at: at }
+    Case::Answered { used }
 }

@@ -1,8 +1,10 @@
 // Row 9: a field is written to a lent run of blocks, which is shown as it stands afterwards.
 ghost use Rattle.std.specs.Prelude.{◌*◌, ◌≤◌, length};
 
+use crate::line::Output;
 use crate::types::{BYTE_BEFORE, Case, Fault, MOST_BYTES, MOST_VALUES};
 use crate::{answers, case_bytes, line};
+use std::io;
 use write::types::Write;
 use write::write::write;
 
@@ -17,26 +19,25 @@ fn shown(answer: Write) -> [u64; 3] {
 }
 
 // The line of a field, whose numbers are still bytes of the case, and of the lent run.
-fn put_writing(
+fn put_writing<W: io::Write>(
     first: u32,
     bytes: &[u8],
     marks: &[u8],
     numbers: &mut [u64],
     run: &mut [u8],
-    out: &mut [u8],
-    at: usize,
-) -> usize
+    out: &mut Output<W>,
+)
     requires { 8 * length numbers.old ≤ length bytes.now }
 {
     case_bytes::longs(bytes, 0, numbers);
     let answer = shown(write(numbers, marks, first, run));
-    let at = line::start(out, at, &answer);
-    let at = line::further_bytes(out, at, run);
-    line::end(out, at)
+    line::start(out, &answer);
+    line::further_bytes(out, run);
+    line::end(out);
 }
 
 // b edition, w first block number, h n, h k, w j, n × q of numbers, k marks; the lent run has j bytes.
-pub(crate) fn replay(bytes: &[u8], out: &mut [u8], at: usize) -> Case {
+pub(crate) fn replay<W: io::Write>(bytes: &[u8], out: &mut Output<W>) -> Case {
     if bytes.len() < 14 {
         return Case::Malformed(Fault::CutShort);
     }
@@ -64,14 +65,13 @@ pub(crate) fn replay(bytes: &[u8], out: &mut [u8], at: usize) -> Case {
     }
     let mut numbers = [0u64; MOST_VALUES];
     let mut run = [BYTE_BEFORE; MOST_BYTES];
-    let at = put_writing(
+    put_writing(
         first,
         &bytes[14..from],
         &bytes[from..used],
         &mut numbers[0..number_count],
         &mut run[0..byte_count],
         out,
-        at,
     );
-    Case::Answered { used: used, at: at }
+    Case::Answered { used }
 }

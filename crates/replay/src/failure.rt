@@ -1,0 +1,18 @@
+// Says on standard error that a read or a write failed.
+use std::fmt::InlineText;
+use std::io;
+use std::io::Write;
+
+// Longer than any text that the system has for an error.
+const LONGEST_TEXT: usize = 128;
+
+// What failed, a colon and the system's text for the error, without the error's number, which std puts after it.
+pub(crate) fn tell<E: Write>(errors: &mut E, what: &str, error: io::Error) {
+    let text = InlineText::<LONGEST_TEXT>::of(error);
+    let text = text.as_str();
+    let reason = match text.split_once(" (os error ") {
+        Some((reason, _)) => reason,
+        None => text,
+    };
+    let _ = writeln!(errors, "{what}: {reason}");
+}
