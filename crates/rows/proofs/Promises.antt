@@ -26,7 +26,7 @@ use Rattle.rows.specs.Rows.{Operations, lists, alone, fields, element_of, elemen
 use Rattle.rows.specs.Rows.{numbers_after, marks_after, codes_after, Even, Counted, Short, Roomy, Rows}
 use Rattle.rows.proofs.Elements.{known, other, which, element-as, other-kind, code-exactly}
 use Rattle.rows.proofs.Lengths.{six, seven, nineteen, naught, only-these}
-use Rattle.rows.proofs.After.{written, stays, written-at, past-at, as-long}
+use Rattle.rows.proofs.After.{stays, written-at, past-at, as-long}
 -- one answer and one content of each list
 pub use Rattle.rows.proofs.Unique.{row-answer-unique, row-entry-unique, row-unique}
 

@@ -6,7 +6,7 @@ use Prim.Native.Nat.{ℕ}
 use Rattle.checked.proofs.Unique.{gives, refuses, told-apart}
 use Rattle.rows.specs.declared.types.Row.{Row}
 use Rattle.rows.specs.declared.types.Row.TheVariants.{Done, Refused}
-use Rattle.rows.specs.Rows.{Operations, lists, fields, Rows}
+use Rattle.rows.specs.Rows.{Operations, Rows}
 use Rattle.rows.specs.Answers.{rowed}
 
 pub row-answer-unique : (a b : Row) → rowed a ≡ rowed b → a ≡ b

@@ -1,14 +1,11 @@
 -- `copy::copy_numbers` meets its contract. The invariant: the first i places are written over, and nothing past them.
 -- Assumes nothing.
-use mathlib.Core.Path.{◌≡◌, refl, sym}
-use Prim.Native.Nat.{◌-◌, ◌≤◌}
+use mathlib.Core.Path.{refl, sym}
 use native.Mathlib.Omega.{arith}
-use borrow.Author.Rules.{rules}
-use lib.ListN.{length, length-set}
-use Rattle.places.specs.Places.{over}
+use lib.ListN.{length-set}
 use Rattle.places.proofs.Tables.{over-none}
 use Rattle.layout.specs.Layout.{number_from}
-use Rattle.places.proofs.Copies.{copy-turn, copy-end}
+use Rattle.places.proofs.Copies.{copy-turn}
 use Rattle.block.proofs.copy.copy_numbers.Goals as goal
 
 pub loop-i-init : goal.loop-i-init

@@ -1,14 +1,10 @@
 -- `copy::copy_numbers` meets its contract. The invariant: the first i places are written over, and nothing past them.
 -- Assumes nothing.
-use mathlib.Core.Path.{◌≡◌, refl, sym}
+use mathlib.Core.Path.{◌≡◌}
 use Prim.Native.Nat.{◌-◌, ◌≤◌}
-use native.Mathlib.Omega.{arith}
-use borrow.Author.Rules.{rules}
-use lib.ListN.{length, length-set}
+use lib.ListN.{length}
 use Rattle.places.specs.Places.{over}
-use Rattle.places.proofs.Tables.{over-none}
 use Rattle.layout.specs.Layout.{number_from}
-use Rattle.places.proofs.Copies.{copy-turn, copy-end}
 use Rattle.block.proofs.copy.copy_numbers.Given as goal
 
 abbrev pub invariant-loop-i : goal.invariant-loop-i

@@ -1,7 +1,6 @@
 -- `read::read` meets its contract.
 -- Assumes nothing.
 use mathlib.Core.Path.{◌≡◌, ap, sym, ◌∙◌}
-use borrow.Author.Rules.{rules}
 use borrow.Author.Tests.{eqb-false}
 use Rattle.checked.specs.Paper.{number_of}
 use Rattle.checked.proofs.Unique.{not-zero}

@@ -66,7 +66,7 @@ returns-clause-result_value c =
     let b = a.block.now in
     let r =
     given-so one b a.numbers.now a.marks.now
-    (read-sound one b a.numbers.now a.marks.now s.requires e.if-numbers-count.false e.if-marks-count.false) in  ap (λ n. given n (count b)) (c.word_at.ensures ∙ number-read b) ∙ r.0
+    (read-sound one b a.numbers.now a.marks.now s.requires e.if-numbers-count.false e.if-marks-count.false) in ap (λ n. given n (count b)) (c.word_at.ensures ∙ number-read b) ∙ r.0
 
 pub returns-clause-numbers_new : goal.returns-clause-numbers_new
 returns-clause-numbers_new c =
@@ -76,7 +76,7 @@ returns-clause-numbers_new c =
     let b = a.block.now in
     let r =
     given-so one b a.numbers.now a.marks.now
-    (read-sound one b a.numbers.now a.marks.now s.requires e.if-numbers-count.false e.if-marks-count.false) in  c.copy_numbers.ensures ∙ r.1.0
+    (read-sound one b a.numbers.now a.marks.now s.requires e.if-numbers-count.false e.if-marks-count.false) in c.copy_numbers.ensures ∙ r.1.0
 
 pub returns-clause-marks_new : goal.returns-clause-marks_new
 returns-clause-marks_new c =
@@ -86,5 +86,4 @@ returns-clause-marks_new c =
     let b = a.block.now in
     let r =
     given-so one b a.numbers.now a.marks.now
-    (read-sound one b a.numbers.now a.marks.now s.requires e.if-numbers-count.false e.if-marks-count.false) in  c.copy_marks.ensures ∙ r.1.1
-
+    (read-sound one b a.numbers.now a.marks.now s.requires e.if-numbers-count.false e.if-marks-count.false) in c.copy_marks.ensures ∙ r.1.1

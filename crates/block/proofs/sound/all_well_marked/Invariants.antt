@@ -1,14 +1,9 @@
 -- `sound::all_well_marked` meets its contract. The invariant: the first i places are well marked.
 -- Assumes nothing.
-use mathlib.Core.Path.{◌≡◌, ap, ap₂, sym, ◌∙◌}
-use mathlib.Core.Bool.{true, ◌&&◌}
+use mathlib.Core.Path.{◌≡◌}
+use mathlib.Core.Bool.{true}
 use Prim.Native.Nat.{◌-◌, ◌≤◌}
-use native.Mathlib.Numerals.{add-one}
-use native.Mathlib.Omega.{arith}
-use borrow.Author.Rules.{rules}
-use borrow.Author.Tests.{not-true, not-false}
 use Rattle.places.specs.Places.{every}
-use Rattle.places.proofs.Every.{every-none, every-more, every-fails}
 use Rattle.layout.specs.Layout.{place_well_marked}
 use Rattle.block.proofs.sound.all_well_marked.Given as goal
 

@@ -1,12 +1,6 @@
 -- `sound::marks_fine` meets its contract.
 -- Assumes nothing.
-use mathlib.Core.Path.{ap, sym, ◌∙◌}
-use mathlib.Core.Bool.{◌&&◌}
-use native.Mathlib.Omega.{arith}
-use borrow.Author.Rules.{rules}
-use borrow.Author.Tests.{not-true, not-false}
-use Rattle.places.specs.Places.{every}
-use Rattle.layout.specs.Layout.{place_well_marked}
+use mathlib.Core.Path.{sym, ◌∙◌}
 use Rattle.block.proofs.Marking.{unmarked}
 use Rattle.block.proofs.sound.marks_fine.Goals as goal
 

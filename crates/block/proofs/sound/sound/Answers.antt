@@ -3,7 +3,6 @@
 use mathlib.Core.Path.{◌≡◌, refl, ap, sym, ◌∙◌}
 use mathlib.Core.List.{List}
 use Prim.Native.Nat.{ℕ}
-use borrow.Author.Rules.{rules}
 use Rattle.little.specs.Bytes.{part, little}
 use Rattle.layout.specs.Editions.{check_at, one}
 use Rattle.layout.specs.Layout.{check, check_sum}

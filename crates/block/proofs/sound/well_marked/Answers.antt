@@ -3,12 +3,11 @@
 use mathlib.Core.Path.{◌≡◌, refl, ap, ◌∙◌}
 use mathlib.Core.List.{List}
 use Prim.Native.Nat.{ℕ, ◌+◌, ◌*◌}
-use borrow.Author.Rules.{rules}
 use lib.Dec.{eqb}
 use Rattle.little.specs.Bytes.{byte_at, part, little}
 use Rattle.layout.specs.Editions.{marks_at}
 use Rattle.layout.specs.Layout.{number_from}
-use Rattle.field.proofs.Marks.{marked-0, marked-1, marked-above-1}
+use Rattle.field.proofs.Marks.{marked-1}
 use Rattle.block.proofs.sound.well_marked.Goals as goal
 
 number-read : (from : ℕ) (b : List ℕ) (i : ℕ) → little (part (from + 8 * i) 8 b) ≡ number_from from b i

@@ -1,10 +1,9 @@
 -- `sum::add_row` meets its contract. The invariant: the first j columns are done, and the others are as they were.
 -- Assumes nothing.
-use Prim.Native.Nat.{◌+◌, ◌-◌, ◌≤◌}
+use Prim.Native.Nat.{◌+◌, ◌≤◌}
 use native.Mathlib.Omega.{arith}
-use borrow.Author.Rules.{rules}
 use lib.ListN.{get_or}
-use Rattle.checksum.proofs.Columns.{Added, added-none, added-more, added-all, column-small}
+use Rattle.checksum.proofs.Columns.{added-none, added-more, column-small}
 use Rattle.checksum.proofs.sum.add_row.Goals.{In-loop-j}
 use Rattle.checksum.proofs.sum.add_row.Goals as goal
 

@@ -1,10 +1,7 @@
 -- `sum::add_row` meets its contract. The invariant: the first j columns are done, and the others are as they were.
 -- Assumes nothing.
-use Prim.Native.Nat.{◌+◌, ◌-◌, ◌≤◌}
-use native.Mathlib.Omega.{arith}
-use borrow.Author.Rules.{rules}
-use lib.ListN.{get_or}
-use Rattle.checksum.proofs.Columns.{Added, added-none, added-more, added-all, column-small}
+use Prim.Native.Nat.{◌-◌}
+use Rattle.checksum.proofs.Columns.{Added}
 use Rattle.checksum.proofs.sum.add_row.Given as goal
 
 abbrev pub invariant-loop-j : goal.invariant-loop-j

@@ -1,11 +1,8 @@
 -- `sum::check_sum` meets its contract. The invariant: the columns are summed down to row `row`.
 -- Assumes nothing.
 use mathlib.Core.Path.{◌≡◌, sym, ◌∙◌, subst}
-use mathlib.Core.List.{List}
-use Prim.Native.Nat.{ℕ, suc, ◌+◌, ◌-◌, ◌*◌, ◌≤◌}
+use Prim.Native.Nat.{suc, ◌+◌, ◌-◌, ◌*◌}
 use native.Mathlib.Omega.{arith}
-use borrow.Author.Rules.{rules}
-use Rattle.little.specs.Bytes.{Bytes}
 use Rattle.layout.specs.Layout.{check_sum}
 use Rattle.checksum.specs.Rows.{Columns, all_more}
 use Rattle.checksum.proofs.Columns.{columns-start, columns-more, columns-small, columns-weigh}

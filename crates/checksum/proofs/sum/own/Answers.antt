@@ -2,14 +2,13 @@
 -- Assumes nothing.
 use mathlib.Core.Path.{◌≡◌, ap, ◌∙◌}
 use mathlib.Core.List.{List}
-use Prim.Native.Nat.{ℕ, ◌+◌, ◌-◌, ◌≤◌}
+use Prim.Native.Nat.{ℕ, ◌+◌, ◌≤◌}
 use native.Mathlib.Numerals.{add-one}
 use native.Mathlib.Omega.{arith}
-use borrow.Author.Rules.{rules}
 use Rattle.places.specs.Places.{total}
 use Rattle.places.proofs.Totals.{total-more}
 use Rattle.little.specs.Bytes.{Bytes}
-use Rattle.layout.specs.Editions.{block_length, check_at}
+use Rattle.layout.specs.Editions.{check_at}
 use Rattle.layout.specs.Layout.{weighed, check_sum}
 use Rattle.layout.proofs.Check.{weighed-at-most, sums-at-most}
 use Rattle.checksum.proofs.sum.own.Goals.{After-shared_slice_known-1}

@@ -1,17 +1,10 @@
 -- `sum::own` meets its contract. The invariant: `sum` is what is weighed from the check's first byte to before byte i.
 -- Assumes nothing.
-use mathlib.Core.Path.{◌≡◌, ap, ◌∙◌}
-use mathlib.Core.List.{List}
-use Prim.Native.Nat.{ℕ, ◌+◌, ◌-◌, ◌≤◌}
-use native.Mathlib.Numerals.{add-one}
-use native.Mathlib.Omega.{arith}
-use borrow.Author.Rules.{rules}
+use mathlib.Core.Path.{◌≡◌}
+use Prim.Native.Nat.{◌+◌, ◌-◌, ◌≤◌}
 use Rattle.places.specs.Places.{total}
-use Rattle.places.proofs.Totals.{total-more}
-use Rattle.little.specs.Bytes.{Bytes}
 use Rattle.layout.specs.Editions.{block_length, check_at}
 use Rattle.layout.specs.Layout.{weighed, check_sum}
-use Rattle.layout.proofs.Check.{weighed-at-most, sums-at-most}
 use Rattle.checksum.proofs.sum.own.Given as goal
 
 abbrev pub invariant-loop-i : goal.invariant-loop-i

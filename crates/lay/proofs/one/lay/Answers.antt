@@ -1,11 +1,8 @@
 -- `one::lay` meets its contract: it returns early where the list stays, and each step after that lays one part more.
 -- Assumes nothing.
-use mathlib.Core.Path.{◌≡◌, refl, ap, sym, ◌∙◌}
-use borrow.Author.Rules.{rules}
-use lib.ListN.{length, length-set}
+use mathlib.Core.Path.{refl, sym, ◌∙◌}
 use Rattle.layout.specs.Editions.{one}
-use Rattle.written.specs.Block.{laid_over}
-use Rattle.lay.proofs.Laid.{no-block-stays, too-many-stays, uneven-stays, steps-put, laid-length, check-laid}
+use Rattle.lay.proofs.Laid.{no-block-stays, too-many-stays, uneven-stays, steps-put, check-laid}
 use Rattle.lay.proofs.one.lay.Goals as goal
 
 pub returns-then-block-ne-BLOCK_LENGTH : goal.returns-then-block-ne-BLOCK_LENGTH

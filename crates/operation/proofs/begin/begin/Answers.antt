@@ -4,7 +4,6 @@ use Rattle.operation.proofs.Outcomes.{begins, begun-product, begun-sum, literal-
 use Rattle.shape.proofs.Codes.{kind_at}
 use mathlib.Core.Path.{◌∙◌, ap}
 use Rattle.steps.specs.Steps.{value}
-use borrow.Author.Rules.{rules}
 use Rattle.operation.proofs.begin.begin.Goals as goal
 
 pub returns-then-kind-eq1 : goal.returns-then-kind-eq1

@@ -2,7 +2,6 @@
 -- Assumes nothing.
 use Rattle.operation.proofs.Outcomes.{begun-logarithm, small-base}
 use mathlib.Core.Path.{◌∙◌}
-use borrow.Author.Rules.{rules}
 use Rattle.operation.proofs.begin.begin_logarithm.Goals as goal
 
 pub returns-then-l-lt2 : goal.returns-then-l-lt2

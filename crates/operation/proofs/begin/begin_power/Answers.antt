@@ -4,7 +4,6 @@ use Rattle.operation.proofs.Outcomes.{begun-power}
 use mathlib.Core.Path.{◌∙◌, ap}
 use Rattle.checked.specs.declared.types.Checked64.TheVariants.{Fits}
 use Rattle.steps.specs.Steps.{powering}
-use borrow.Author.Rules.{rules}
 use Rattle.operation.proofs.begin.begin_power.Goals as goal
 
 pub returns : goal.returns

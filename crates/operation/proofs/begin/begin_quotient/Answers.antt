@@ -1,7 +1,6 @@
 -- `begin::begin_quotient` meets its contract.
 -- Assumes nothing.
 use Rattle.operation.proofs.Outcomes.{begun-quotient, quotient-by-zero}
-use borrow.Author.Rules.{rules}
 use Rattle.operation.proofs.begin.begin_quotient.Goals as goal
 
 pub returns-then-r-eq0 : goal.returns-then-r-eq0

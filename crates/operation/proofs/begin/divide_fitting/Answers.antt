@@ -4,7 +4,6 @@ use Rattle.operation.proofs.Outcomes.{begins}
 use Rattle.shape.proofs.Codes.{kind_at}
 use native.Mathlib.Omega.{arith}
 use Rattle.checked.specs.declared.types.Checked64.TheVariants.{Fits}
-use borrow.Author.Rules.{rules}
 use Rattle.operation.proofs.begin.divide_fitting.Goals as goal
 
 pub returns-in-3 : goal.returns-in-3

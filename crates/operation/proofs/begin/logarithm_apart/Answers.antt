@@ -1,6 +1,5 @@
 -- `begin::logarithm_apart` meets its contract.
 -- Assumes nothing.
-use borrow.Author.Rules.{rules}
 use Rattle.operation.proofs.Outcomes.{logarithm-known, logarithm-asks}
 use Rattle.operation.proofs.begin.logarithm_apart.Goals as goal
 

@@ -1,7 +1,6 @@
 -- `begin::power_apart` meets its contract.
 -- Assumes nothing.
 use mathlib.Core.Path.{◌∙◌, ap, ap₂, sym}
-use borrow.Author.Rules.{rules}
 use Rattle.checked.specs.Value.{raised_of}
 use Rattle.steps.specs.Steps.{value}
 use Rattle.operation.proofs.Outcomes.{other-overflowed, power-at-once}

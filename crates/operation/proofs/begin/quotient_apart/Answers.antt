@@ -1,6 +1,5 @@
 -- `begin::quotient_apart` meets its contract.
 -- Assumes nothing.
-use borrow.Author.Rules.{rules}
 use Rattle.operation.proofs.Outcomes.{quotient-known, quotient-asks}
 use Rattle.operation.proofs.begin.quotient_apart.Goals as goal
 

@@ -1,6 +1,5 @@
 -- `begin::remainder_apart` meets its contract.
 -- Assumes nothing.
-use borrow.Author.Rules.{rules}
 use Rattle.operation.proofs.Outcomes.{remainder-known, remainder-asks}
 use Rattle.operation.proofs.begin.remainder_apart.Goals as goal
 

@@ -1,14 +1,11 @@
 -- `within::logarithm_on` meets its contract.
 -- Assumes nothing.
-use mathlib.Core.Path.{◌≡◌, refl, ◌∙◌}
-use Prim.Native.Nat.{ℕ, ◌-◌}
-use native.Mathlib.Omega.{arith}
+use mathlib.Core.Path.{◌∙◌}
 use Rattle.steps.specs.declared.types.Logarithm.{Logarithm}
 use Rattle.steps.specs.declared.types.Phase.TheVariants.{InLogarithm}
 use Rattle.steps.specs.Steps.{within}
-use Rattle.operation.specs.Work.{Sound, gone_on}
 use Rattle.operation.proofs.Going.{stops, logarithm-value, logarithm-goes-on}
-use Rattle.operation.proofs.Outcomes.{in_logarithm, sound-step}
+use Rattle.operation.proofs.Outcomes.{sound-step}
 use Rattle.operation.proofs.within.logarithm_on.Goals as goal
 
 pub returns-then-left-base : goal.returns-then-left-base

@@ -1,14 +1,9 @@
 -- `within::logarithm_on` meets its contract.
 -- Assumes nothing.
-use mathlib.Core.Path.{◌≡◌, refl, ◌∙◌}
+use mathlib.Core.Path.{◌≡◌}
 use Prim.Native.Nat.{ℕ, ◌-◌}
-use native.Mathlib.Omega.{arith}
-use Rattle.steps.specs.declared.types.Logarithm.{Logarithm}
-use Rattle.steps.specs.declared.types.Phase.TheVariants.{InLogarithm}
-use Rattle.steps.specs.Steps.{within}
 use Rattle.operation.specs.Work.{Sound, gone_on}
-use Rattle.operation.proofs.Going.{stops, logarithm-value, logarithm-goes-on}
-use Rattle.operation.proofs.Outcomes.{in_logarithm, sound-step}
+use Rattle.operation.proofs.Outcomes.{in_logarithm}
 use Rattle.operation.proofs.within.logarithm_on.Given as goal
 
 abbrev pub invariant-loop-taken : goal.invariant-loop-taken

@@ -1,15 +1,11 @@
 -- `within::power_on` meets its contract.
 -- Assumes nothing.
-use mathlib.Core.Logic.{⊎_elim}
-use mathlib.Core.Path.{◌≡◌, refl, ◌∙◌}
-use Prim.Native.Nat.{◌-◌}
-use native.Mathlib.Omega.{arith}
+use mathlib.Core.Path.{◌≡◌, ◌∙◌}
 use Rattle.steps.specs.declared.types.Power.{Power}
 use Rattle.steps.specs.declared.types.Phase.TheVariants.{InPower}
 use Rattle.steps.specs.Steps.{within}
-use Rattle.operation.specs.Work.{gone_on}
 use Rattle.operation.proofs.Going.{stops, power-value, power-goes-on}
-use Rattle.operation.proofs.Outcomes.{in_power, first_after, odd-first, even-first, power-ends, power-goes}
+use Rattle.operation.proofs.Outcomes.{first_after, odd-first, even-first, power-ends, power-goes}
 use Rattle.operation.proofs.within.power_on.Goals.{Joined-exponent-eq1, then-exponent-eq1, else-exponent-eq1}
 use Rattle.operation.proofs.within.power_on.Goals as goal
 

@@ -1,15 +1,9 @@
 -- `within::power_on` meets its contract.
 -- Assumes nothing.
-use mathlib.Core.Logic.{⊎_elim}
-use mathlib.Core.Path.{◌≡◌, refl, ◌∙◌}
+use mathlib.Core.Path.{◌≡◌}
 use Prim.Native.Nat.{◌-◌}
-use native.Mathlib.Omega.{arith}
-use Rattle.steps.specs.declared.types.Power.{Power}
-use Rattle.steps.specs.declared.types.Phase.TheVariants.{InPower}
-use Rattle.steps.specs.Steps.{within}
 use Rattle.operation.specs.Work.{gone_on}
-use Rattle.operation.proofs.Going.{stops, power-value, power-goes-on}
-use Rattle.operation.proofs.Outcomes.{in_power, first_after, odd-first, even-first, power-ends, power-goes}
+use Rattle.operation.proofs.Outcomes.{in_power}
 use Rattle.operation.proofs.within.power_on.Given as goal
 
 abbrev pub invariant-loop-taken : goal.invariant-loop-taken

@@ -1,8 +1,7 @@
 -- `entries::razovinto_logarithm` meets its contract.
 -- Assumes nothing.
-use borrow.Author.Rules.{rules}
 use Rattle.checked.specs.Paper.{log_by}
-use Rattle.razovinto.proofs.Slices.{short-gives, entry-gives}
+use Rattle.razovinto.proofs.Slices.{short-gives}
 use Rattle.razovinto.proofs.entries.razovinto_logarithm.Goals as goal
 
 pub returns-then-res-lt-RESULT_LENGTH-clause-value : goal.returns-then-res-lt-RESULT_LENGTH-clause-value

@@ -1,10 +1,8 @@
 -- `entries::razovinto_product` meets its contract.
 -- Assumes nothing.
-use mathlib.Core.Path.{ap}
-use borrow.Author.Rules.{rules}
 use Rattle.checked.specs.Value.{limit_of}
-use Rattle.checked.specs.Paper.{given, products_of}
-use Rattle.razovinto.proofs.Slices.{short-gives, entry-gives}
+use Rattle.checked.specs.Paper.{products_of}
+use Rattle.razovinto.proofs.Slices.{short-gives}
 use Rattle.razovinto.proofs.entries.razovinto_product.Goals as goal
 
 pub returns-then-res-lt-RESULT_LENGTH-clause-value : goal.returns-then-res-lt-RESULT_LENGTH-clause-value

@@ -4,7 +4,6 @@ use Rattle.checked.specs.Paper.{given}
 use Rattle.checked.proofs.Arms.{at}
 use Rattle.razovinto.specs.Entry.{afterwards}
 use Rattle.razovinto.proofs.Slices.{fitting-written, overflowed-written}
-use borrow.Author.Rules.{rules}
 use Rattle.razovinto.proofs.result.put_value.Goals as goal
 
 pub returns-in-Fits : goal.returns-in-Fits

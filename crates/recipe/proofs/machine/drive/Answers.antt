@@ -1,16 +1,7 @@
 -- `machine::drive` meets its contract.
 -- Assumes nothing.
-use mathlib.Core.Logic.{⊎_elim}
-use mathlib.Core.Path.{subst}
-use mathlib.Core.List.{[], ◌∷◌}
-use Prim.Native.Nat.{◌-◌}
-use native.Mathlib.Omega.{arith}
-use denote.Enum.Declared.{tag_of}
-use types.Run.{OneOf}
-use Rattle.steps.specs.contracts.types.Phase as phases
-use Rattle.recipe.proofs.Driving.{Drives, begins-driving, at-item, entered-stands, refused-shown, Turned, turn}
+use Rattle.recipe.proofs.Driving.{Turned, turn}
 use Rattle.recipe.proofs.Driving.{drives-on, within-shown, finished-shown, stopped-shown}
-use borrow.Author.Rules.{rules}
 use Rattle.recipe.proofs.machine.drive.Goals.{After-go_on-state}
 use Rattle.recipe.proofs.machine.drive.Goals as goal
 

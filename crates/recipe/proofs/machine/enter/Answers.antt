@@ -1,7 +1,6 @@
 -- `machine::enter` meets its contract.
 -- Assumes nothing.
 use Rattle.recipe.proofs.Entering.{good-literal, good-operation, few, literal-enters, operation-enters}
-use borrow.Author.Rules.{rules}
 use Rattle.recipe.proofs.machine.enter.Goals as goal
 
 pub finish-requires : goal.finish-requires

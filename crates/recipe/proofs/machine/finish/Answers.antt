@@ -1,8 +1,6 @@
 -- `machine::finish` meets its contract.
 -- Assumes nothing.
 use Rattle.recipe.proofs.Landing.{finishes}
-use Rattle.recipe.proofs.Places.{shows-length}
-use borrow.Author.Rules.{rules}
 use Rattle.recipe.proofs.machine.finish.Goals as goal
 
 pub returns : goal.returns

@@ -1,7 +1,6 @@
 -- `machine::go_on` meets its contract.
 -- Assumes nothing.
-use Rattle.recipe.proofs.Further.{has-room, value-goes, phase-goes}
-use borrow.Author.Rules.{rules}
+use Rattle.recipe.proofs.Further.{value-goes, phase-goes}
 use Rattle.recipe.proofs.machine.go_on.Goals as goal
 
 pub returns-in-Value : goal.returns-in-Value

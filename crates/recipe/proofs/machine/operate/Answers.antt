@@ -1,12 +1,8 @@
 -- `machine::operate` meets its contract.
 -- Assumes nothing.
-use native.Mathlib.Omega.{arith}
-use Prim.Native.Nat.{◌-◌}
 use Rattle.shape.specs.Items.{kind_of}
 use Rattle.recipe.proofs.Landing.{Taken, both-taken, room-left}
 use Rattle.recipe.proofs.Landing.{value-operates, phase-operates, refusal-operates}
-use Rattle.recipe.proofs.Places.{shows-length, take-shows}
-use borrow.Author.Rules.{rules}
 use Rattle.recipe.proofs.machine.operate.Goals.{After-begin}
 use Rattle.recipe.proofs.machine.operate.Goals as goal
 

@@ -10,7 +10,6 @@ use Rattle.razovinto.specs.Six.{answer_of}
 use Rattle.rows.specs.declared.types.OperationRecord.{OperationRecord}
 use Rattle.rows.specs.Rows.{element_of}
 use Rattle.rows.proofs.Elements.{element-at, no-operation}
-use borrow.Author.Rules.{rules}
 use Rattle.rows.proofs.element.answer.Goals as goal
 
 arm

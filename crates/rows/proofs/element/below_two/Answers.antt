@@ -7,7 +7,6 @@ use Rattle.checked.specs.Paper.{given}
 use Rattle.shape.specs.Items.{sum}
 use Rattle.shape.proofs.Codes.{kind_at}
 use Rattle.rows.proofs.Elements.{element-at, other-kind}
-use borrow.Author.Rules.{rules}
 use Rattle.rows.proofs.element.below_two.Goals as goal
 
 pub returns-then-kind-eq0 : goal.returns-then-kind-eq0

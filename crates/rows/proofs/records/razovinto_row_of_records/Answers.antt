@@ -1,11 +1,11 @@
 -- `records::razovinto_row_of_records` meets its contract. The invariant: the first i places of the three lists are
 -- written, and i is at most the number of turns.
 -- Assumes nothing.
-use mathlib.Core.Path.{◌≡◌, refl, ap, ap₂, sym, ◌∙◌}
-use Prim.Native.Nat.{ℕ, ◌<◌}
+use mathlib.Core.Path.{◌≡◌, ap, ap₂, sym, ◌∙◌}
+use Prim.Native.Nat.{◌<◌}
 use native.Mathlib.Omega.{arith}
 use lib.ListN.{length, length-map}
-use Rattle.rows.specs.Rows.{fields, element_at}
+use Rattle.rows.specs.Rows.{fields}
 use Rattle.rows.specs.Turns.{turns_of, cleared}
 use Rattle.rows.proofs.Fields.{record-at, records-code}
 use Rattle.rows.proofs.Turns.{inside, turns, enough}

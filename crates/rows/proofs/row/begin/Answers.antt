@@ -1,8 +1,8 @@
 -- `row::begin` meets its contract.
 -- Assumes nothing.
 use mathlib.Core.Path.{◌≡◌, sym}
-use mathlib.Core.Logic.{◌⊎◌, inl, inr}
-use Prim.Native.Nat.{ℕ, ◌≤◌}
+use mathlib.Core.Logic.{inl, inr}
+use Prim.Native.Nat.{◌≤◌}
 use native.Mathlib.Omega.{arith}
 use Rattle.rows.proofs.Lengths.{six, seven, nineteen, naught}
 use Rattle.rows.proofs.row.begin.Goals.{Else-kinds-gt-MOST, Else-kinds-rights}

@@ -2,10 +2,10 @@
 -- number of turns.
 -- Assumes nothing.
 use mathlib.Core.Path.{◌≡◌, refl, ap, ◌∙◌}
-use Prim.Native.Nat.{ℕ, ◌<◌}
+use Prim.Native.Nat.{◌<◌}
 use native.Mathlib.Omega.{arith}
 use lib.ListN.{length}
-use Rattle.rows.specs.Rows.{Operations, lists, element_at}
+use Rattle.rows.specs.Rows.{lists, element_at}
 use Rattle.rows.specs.Turns.{turns_of, cleared}
 use Rattle.rows.proofs.Turns.{Inside, inside, turns, enough}
 use Rattle.rows.proofs.Filling.{filled-first, filled-turn, filled-last, marks_long, codes-long}
@@ -54,9 +54,11 @@ ready-count-requires c =
 
 pub loop-i-init : goal.loop-i-init
 loop-i-init c =
-    let g = c.args in
-    (filled-first (lists g.kinds.now g.lefts.now g.rights.now) g.numbers.now c.ready-count.new.marks
-    c.ready-count.new.codes, omega arith)
+    let g = c.args in (
+      filled-first (lists g.kinds.now g.lefts.now g.rights.now) g.numbers.now c.ready-count.new.marks
+          c.ready-count.new.codes,
+      omega arith,
+    )
 
 pub offset_bounds-lefts-i : goal.offset_bounds-lefts-i
 offset_bounds-lefts-i c =

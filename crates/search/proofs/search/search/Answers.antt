@@ -1,7 +1,6 @@
 -- `search::search` meets its contract.
 -- Assumes nothing.
 use mathlib.Core.Path.{sym}
-use native.Mathlib.Omega.{arith}
 use Rattle.search.proofs.Stages.{at-partial}
 use Rattle.search.proofs.search.search.Goals as goal
 

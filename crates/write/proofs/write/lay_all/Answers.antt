@@ -1,14 +1,11 @@
 -- `write::lay_all` meets its contract. The invariant: the run begins with the blocks before this position and goes on
 -- as it was.
 -- Assumes nothing.
-use mathlib.Core.Path.{◌≡◌, refl, ap, sym, ◌∙◌}
-use Prim.Native.Nat.{◌+◌, ◌-◌, ◌*◌, ◌≤◌, ◌<◌}
+use mathlib.Core.Path.{refl}
+use Prim.Native.Nat.{◌+◌, ◌*◌, ◌<◌}
 use native.Mathlib.Omega.{arith}
-use borrow.Author.Rules.{rules}
 use lib.ListN.{length}
-use Rattle.places.specs.Places.{chained, overlaid}
 use Rattle.layout.specs.Editions.{one}
-use Rattle.written.specs.Run.{field_block}
 use Rattle.written.proofs.Counts.{begins-within}
 use Rattle.write.proofs.Walks.{none-laid, block-turn, overlaid-long, all-laid}
 use Rattle.write.proofs.write.lay_all.Goals.{In-loop-position}
