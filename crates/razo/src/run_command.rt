@@ -1,6 +1,4 @@
 // A recipe as words of the command line.
-ghost use Rattle.std.specs.Prelude.{◌≤◌};
-
 use crate::show::show;
 use crate::status::WRONG;
 use crate::system::{Streams, System};
@@ -8,9 +6,6 @@ use crate::text::{LONGEST_WORD, complain, complain_too_long, first, put_form};
 use crate::words::{Word, word_of};
 use recipe::run::run;
 use std::io;
-
-// A recipe has at most 256 items, so a 257th is taken for the library to refuse, and none after it is looked at.
-const MOST_ITEMS: usize = 257;
 
 // A number that was asked for, or nothing.
 #[derive(Clone, Copy)]
@@ -100,47 +95,58 @@ fn item_at(rt: &impl System, place: usize, index: usize) -> Item {
     item_named(rt, index, first(&before, at))
 }
 
-// Puts the recipe's items into the lists, or answers that a word is none.
-fn take_items(
-    rt: &impl System,
-    count: usize,
-    kinds: &mut [u8; MOST_ITEMS],
-    numbers: &mut [u64; MOST_ITEMS],
-) -> bool
-    requires { count ≤ MOST_ITEMS }
-{
+// Puts an item into the lists, or answers that there is none.
+fn take_item(rt: &impl System, place: usize, kinds: &mut [u8], numbers: &mut [u64]) -> bool {
+    if kinds.len() <= place || numbers.len() <= place {
+        return false;
+    }
+    match item_at(rt, place, place + 4) {
+        Item::Item { kind, number } => {
+            kinds[place] = kind;
+            numbers[place] = number;
+            true
+        }
+        Item::Nothing => false,
+    }
+}
+
+fn take_items(rt: &impl System, count: usize, kinds: &mut [u8], numbers: &mut [u64]) -> bool {
     for place in 0..count {
-        match item_at(rt, place, place + 4) {
-            Item::Item { kind, number } => {
-                kinds[place] = kind;
-                numbers[place] = number;
-            }
-            Item::Nothing => return false,
+        if !take_item(rt, place, kinds, numbers) {
+            return false;
         }
     }
     true
 }
 
-// How many items so many words of the command line have.
-fn item_count(words: usize) -> usize
-    ensures { result ≤ MOST_ITEMS }
-{
-    words.saturating_sub(4).min(MOST_ITEMS)
-}
-
-fn run_words(rt: &impl System, width: u64, allowance: u64, count: usize) -> io::Result<u8>
-    requires { count ≤ MOST_ITEMS }
-{
-    let mut kinds = [0u8; MOST_ITEMS];
-    let mut numbers = [0u64; MOST_ITEMS];
-    if !take_items(rt, count, &mut kinds, &mut numbers) {
+fn run_items(
+    rt: &impl System,
+    width: u64,
+    allowance: u64,
+    kinds: &[u8],
+    numbers: &[u64],
+    count: usize,
+) -> io::Result<u8> {
+    if kinds.len() < count || numbers.len() < count {
         return Ok(WRONG);
     }
-    show(
-        rt,
-        run(width, &kinds[..count], &numbers[..count], allowance),
-        &kinds,
-    )
+    let ran = run(width, &kinds[..count], &numbers[..count], allowance);
+    show(rt, ran, kinds)
+}
+
+// How many items so many words of the command line have. A recipe has at most 256 items, so a 257th is taken for the
+// library to refuse, and none after it is looked at.
+fn item_count(words: usize) -> usize {
+    words.saturating_sub(4).min(257)
+}
+
+fn run_words(rt: &impl System, width: u64, allowance: u64, count: usize) -> io::Result<u8> {
+    let mut kinds = [0u8; 257];
+    let mut numbers = [0u64; 257];
+    if take_items(rt, count, &mut kinds, &mut numbers) {
+        return run_items(rt, width, allowance, &kinds, &numbers, count);
+    }
+    Ok(WRONG)
 }
 
 pub(crate) fn run_command(rt: &impl System, words: usize) -> io::Result<u8> {
