@@ -1,6 +1,7 @@
 // A file that is read in parts.
 use crate::system::{Streams, System};
-use crate::text::{fail, same};
+use crate::text::{fail, first, same};
+use lines::put::{number, word};
 use std::fs::File;
 use std::io;
 use std::io::{ErrorKind, Read};
@@ -32,14 +33,34 @@ pub(crate) enum Filled {
     Failed(usize, io::Error),
 }
 
-// The file, or why it can't be opened. `-` is standard input. std takes names of UTF-8 alone.
-pub(crate) fn open<R: System>(rt: &R, name: &[u8]) -> io::Result<Source<R::Reader, R::File>> {
+// The script `razo` lends the program the file of a word that isn't UTF-8, on the descriptor of this number and the word's
+// index.
+const LENT: u64 = 100;
+
+// The file of such a word. std opens no descriptor by its number, but the system has a name for each.
+fn open_lent<R: System>(rt: &R, index: usize) -> io::Result<R::File> {
+    let mut path = [0u8; 64];
+    let mut at = word(&mut path, 0, b"/proc/self/fd/");
+    at = number(&mut path, at, count_on(LENT, index as u64));
+    match str::from_utf8(first(&path, at)) {
+        Ok(path) => File::open(rt, path),
+        Err(_) => Err(io::Error::from(ErrorKind::InvalidFilename)),
+    }
+}
+
+// The file that a word of the command line names, or why it can't be opened. `-` is standard input. std takes names of
+// UTF-8 alone.
+pub(crate) fn open<R: System>(
+    rt: &R,
+    index: usize,
+    name: &[u8],
+) -> io::Result<Source<R::Reader, R::File>> {
     if same(name, b"-") {
         return Ok(Source::Standard(rt.reader()));
     }
     match str::from_utf8(name) {
         Ok(path) => Ok(Source::Named(File::open(rt, path)?)),
-        Err(_) => Err(io::Error::new(ErrorKind::InvalidFilename, "the name is not UTF-8")),
+        Err(_) => Ok(Source::Named(open_lent(rt, index)?)),
     }
 }
 

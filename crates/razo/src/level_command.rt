@@ -245,9 +245,14 @@ fn level_parts<R: Read>(rt: &impl Streams, inputs: &mut Inputs<R>, names: Names<
     Ok(WELL)
 }
 
+// The indices of their words on the command line.
+const VALUES: usize = 2;
+
+const GROUND: usize = 3;
+
 // The files of these names.
 pub(crate) fn level_command(rt: &impl System, values: &[u8], ground: Option<&[u8]>) -> Result<u8> {
-    let mut inputs = match open(rt, values) {
+    let mut inputs = match open(rt, VALUES, values) {
         Ok(values) => Inputs {
             values,
             ground: None,
@@ -269,7 +274,7 @@ pub(crate) fn level_command(rt: &impl System, values: &[u8], ground: Option<&[u8
             b"' can't be both VALUES and GROUND\n",
         ));
     }
-    match open(rt, ground) {
+    match open(rt, GROUND, ground) {
         Ok(input) => inputs.ground = Some(input),
         Err(error) => return Ok(fail(rt, ground, error)),
     }

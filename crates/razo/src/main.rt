@@ -54,8 +54,14 @@ fn go_on<R: Read>(
 }
 
 // Standard input stays open: it may be named twice, and ends at once the second time.
-fn go_through(rt: &impl System, command: Command, name: &[u8], named: bool) -> Result<u8> {
-    match open(rt, name) {
+fn go_through(
+    rt: &impl System,
+    command: Command,
+    index: usize,
+    name: &[u8],
+    named: bool,
+) -> Result<u8> {
+    match open(rt, index, name) {
         Ok(mut input) => go_on(rt, command, &mut input, name, named),
         Err(error) => Ok(fail(rt, name, error)),
     }
@@ -65,7 +71,7 @@ fn go_through(rt: &impl System, command: Command, name: &[u8], named: bool) -> R
 fn on_file(rt: &impl System, command: Command, index: usize, named: bool) -> Result<u8> {
     let mut name = [0u8; LONGEST_WORD];
     match rt.arg(index, &mut name) {
-        Ok(length) => go_through(rt, command, first(&name, length), named),
+        Ok(length) => go_through(rt, command, index, first(&name, length), named),
         Err(_) => Ok(complain_too_long(rt, b"razo: '", &name)),
     }
 }
