@@ -5,7 +5,8 @@ theorem is named on the pages that isn't there.
     check.py
 
 A function is written `crate::module::name`, a method `crate::Type::name`. A program has no public function, since
-nothing outside it calls one: its functions are `pub(crate)` or private. A row names under 'unique by' the theorem that no other
+nothing outside it calls one: its functions are `pub(crate)` or private. A static library, NAME_c, exports functions of
+the library NAME: each must have the parameters and the clauses of the one that it is named after. A row names under 'unique by' the theorem that no other
 answer meets the contract. Every must-fail edit of the crates must be named on the page too, and every edit that the
 page names must be there. The table 'Doors' must have every function of the libraries, by its name or by its module's
 or type's; every entry for C, which the header must have too; and every function of the Python module.
@@ -31,6 +32,7 @@ TOP = os.path.dirname(os.path.dirname(os.path.dirname(os.path.abspath(__file__))
 FUNCTION = re.compile(r'^(\s*)(?:#\[[^\]]*\]\s*)?pub (?:extern "C" )?fn ([A-Za-z_0-9]+)')
 METHODS_OF = re.compile(r"^impl ([A-Za-z_0-9]+) \{")
 OF_FUNCTION = re.compile(r"\| `[a-z_0-9]+::")
+CLAUSE = re.compile(r"^    ensures .*?\}$", re.M | re.S)
 DOORS = "\n## Doors\n"
 ENTRY = re.compile(r'^pub extern "C" fn ([a-z_0-9]+)', re.M)
 NAMING = ("README.md", "docs/ENTRIES.md", "docs/DECISIONS.md")
@@ -100,6 +102,42 @@ def function_faults(files, named):
             if full not in named:
                 faults.append(f"{full} has no row in docs/ENTRIES.md")
     return faults, count
+
+
+def static_libraries():
+    """The crates that only export a library's functions to C."""
+    return set(re.findall(r"^(\w+) staticlib\b", read("crates.txt"), re.M))
+
+
+def heads(files, crate):
+    """The public functions of a crate, each with its parameters and clauses, whatever their layout."""
+    found = {}
+    for text in (text for c, _, _, text in files if c == crate):
+        for head in re.findall(r"^pub (?:extern \"C\" )?fn (.*?)^\{$", text, re.M | re.S):
+            name, _, rest = " ".join(head.split()).partition("(")
+            found[name] = rest.replace(", )", ")").lstrip()
+    return found
+
+
+def export_faults(files):
+    """Which exports don't say what the library's function of their name says."""
+    faults = []
+    for crate in sorted(static_libraries()):
+        library = heads(files, crate.removesuffix("_c"))
+        exports = heads(files, crate)
+        faults += [f"{crate} exports nothing"] * (not exports)
+        faults += [f"{crate}::{n} has other parameters or clauses" for n in sorted(exports) if exports[n] != library.get(n)]
+    return faults
+
+
+def exports_tried(files):
+    """The check must see an export without one of its clauses, in each static library."""
+    for crate in static_libraries():
+        own = [file for file in files if file[0] in (crate, crate.removesuffix("_c"))]
+        cut = [(c, p, m, CLAUSE.sub("", text, 1) if c == crate else text) for c, p, m, text in own]
+        if not any(fault.startswith(f"{crate}::") for fault in export_faults(cut)):
+            return False
+    return bool(static_libraries())
 
 
 def cells_of(row):
@@ -285,13 +323,15 @@ def main():
     wrong, theorems = theorem_faults(texts, pages)
     names = joined_names(pages, files)
     unknown, joined = name_faults(texts, names)
-    faults += row_faults(page) + more + wrong + unknown + door_faults(table, files)
+    faults += row_faults(page) + more + wrong + unknown + door_faults(table, files) + export_faults(files)
     if not faults and not tried(texts, pages):
         faults.append("tests/entries/check.py: a damaged page passes")
     if not faults and not name_tried(texts, names):
         faults.append("tests/entries/check.py: a definition that stands nowhere passes")
     if not faults and not row_tried(page):
         faults.append("tests/entries/check.py: a row without 'unique by' passes")
+    if not faults and not exports_tried(files):
+        faults.append("tests/entries/check.py: an export without a clause passes")
     if not faults and not program_tried(files, named):
         faults.append("tests/entries/check.py: a public function in a program passes")
     if not faults and not doors_tried(table, files):
