@@ -13,6 +13,7 @@ MODULES = {
     "whole.specs": {"div-mod": "DivMod", "logarithm": "Logarithm", "power": "Power"},
     "whole.proofs": {"div-mod": "DivMod", "logarithm": "Logarithm", "mul": "Mul", "power": "Power"},
     "checked.proofs": {"overflow": "Overflow"},
+    "narrow.proofs": {"overflow": "Overflow"},
 }
 
 # A name as port.py leaves it, and as it is to be.

@@ -17,7 +17,7 @@ use lib.ListN.{length, drop}
 use Rattle.checked.specs.Value.{limit_of}
 use Rattle.fit.specs.Fit.{power_fits}
 use Rattle.fit.proofs.Promises.{power-fits-exactly}
-use Rattle.signed.specs.Signed.{Answer, refused, quotient_of, remainder_of, in_range, smallest}
+use Rattle.signed.specs.Signed.{Answer, quotient_of, remainder_of, in_range, smallest}
 use Rattle.signed.proofs.Promises.{one-exactly, four-exactly, quotient-only-codes, remainder-one-exactly}
 use Rattle.signed.proofs.Promises.{remainder-only-codes}
 use Rattle.layout.specs.Reading.{read_fault, reading_of, numbers_after, marks_after}

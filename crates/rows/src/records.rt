@@ -14,8 +14,7 @@ fn code_for(records: usize, numbers: usize, marks: usize, codes: usize) -> u32
 }
 
 // The row of the records' fields; each record is read where it lies. 0 is returned, or the refusal's number, whose
-// place is 0. The function only loops, since its proof is a walk by hand, as that of any function that is lent a list
-// of structs; all else is in functions that need none.
+// place is 0.
 pub fn razovinto_row_of_records(
     operations: &[OperationRecord],
     numbers: &mut [u64],

@@ -2,7 +2,6 @@
 -- Assumes nothing.
 use mathlib.Core.Path.{refl}
 use Rattle.hosts.proofs.Entries.{read-short-gives, read-gives}
-use borrow.Author.Rules.{rules}
 use Rattle.hosts.proofs.blocks.razovinto_read.Goals as goal
 
 pub returns-then-answer-lt-BLOCK_ANSWER_LENGTH : goal.returns-then-answer-lt-BLOCK_ANSWER_LENGTH

@@ -5,7 +5,6 @@ use Rattle.search.specs.Search.{search_of}
 use Rattle.search.specs.Answers.{searched}
 use Rattle.hosts.specs.Answers.{of_search}
 use Rattle.entry.proofs.Entries.{short-gives, arm}
-use borrow.Author.Rules.{rules}
 use Rattle.hosts.proofs.blocks.razovinto_search.Goals as goal
 
 pub returns-then-answer-lt-FOUND_LENGTH : goal.returns-then-answer-lt-FOUND_LENGTH

@@ -2,7 +2,6 @@
 -- Assumes nothing.
 use mathlib.Core.Path.{refl}
 use Rattle.hosts.proofs.Entries.{write-short-gives, write-gives}
-use borrow.Author.Rules.{rules}
 use Rattle.hosts.proofs.blocks.razovinto_write.Goals as goal
 
 pub returns-then-answer-lt-WRITTEN_LENGTH : goal.returns-then-answer-lt-WRITTEN_LENGTH

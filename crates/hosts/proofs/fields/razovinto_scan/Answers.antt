@@ -5,7 +5,6 @@ use Rattle.field.specs.Range.{scan_of}
 use Rattle.field.specs.Answers.{scanned}
 use Rattle.hosts.specs.Answers.{of_scan}
 use Rattle.entry.proofs.Entries.{short-gives, arm}
-use borrow.Author.Rules.{rules}
 use Rattle.hosts.proofs.fields.razovinto_scan.Goals as goal
 
 pub returns-then-answer-lt-RANGE_LENGTH : goal.returns-then-answer-lt-RANGE_LENGTH

@@ -17,9 +17,9 @@ returns-in-Number c =
     let g = c.args in
     let z = c.in-Number.n in
     let f : SFits w64 z = search rules in
-    let s = number-signed-gives z g.res.now c.requires in  record { value = at (λ x. signed_code (answer64 x) g.res.now) s.0 c.in-Number.is; res_new = at (λ x. signed_list (answer64 x) g.res.now) (ap (set g.res.now 0) (to_z-of_z f) ∙ s.1) c.in-Number.is }
+    let s = number-signed-gives z g.res.now c.requires in record { value = at (λ x. signed_code (answer64 x) g.res.now) s.0 c.in-Number.is; res_new = at (λ x. signed_list (answer64 x) g.res.now) (ap (set g.res.now 0) (to_z-of_z f) ∙ s.1) c.in-Number.is }
 
 pub returns-in-Refused : goal.returns-in-Refused
 returns-in-Refused c =
     let g = c.args in
-    let s = refusal-signed-gives c.in-Refused.refusal g.res.now c.requires in  record { value = at (λ x. signed_code (answer64 x) g.res.now) (c.number.ensures ∙ s.0) c.in-Refused.is; res_new = at (λ x. signed_list (answer64 x) g.res.now) s.1 c.in-Refused.is }
+    let s = refusal-signed-gives c.in-Refused.refusal g.res.now c.requires in record { value = at (λ x. signed_code (answer64 x) g.res.now) (c.number.ensures ∙ s.0) c.in-Refused.is; res_new = at (λ x. signed_list (answer64 x) g.res.now) s.1 c.in-Refused.is }

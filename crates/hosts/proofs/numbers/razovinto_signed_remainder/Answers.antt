@@ -1,12 +1,7 @@
 -- `numbers::razovinto_signed_remainder` meets its contract.
 -- Assumes nothing.
-use mathlib.Core.Path.{ap₂, ◌∙◌}
-use mir.Syntax.{w64}
-use mir.Val.{SFits}
-use mir.Facts.{to_z-of_z}
 use Rattle.signed.specs.Signed.{remainder_of}
-use Rattle.hosts.proofs.Signed.{short-signed-gives, signed-gives}
-use borrow.Author.Rules.{rules}
+use Rattle.hosts.proofs.Signed.{short-signed-gives}
 use Rattle.hosts.proofs.numbers.razovinto_signed_remainder.Goals as goal
 
 pub returns-then-res-lt1 : goal.returns-then-res-lt1

@@ -5,7 +5,6 @@ use Rattle.shape.specs.Shape.{shape_of}
 use Rattle.shape.specs.Answers.{verdict}
 use Rattle.hosts.specs.Answers.{of_shape}
 use Rattle.entry.proofs.Entries.{short-gives, arm}
-use borrow.Author.Rules.{rules}
 use Rattle.hosts.proofs.recipes.razovinto_shape.Goals as goal
 
 pub returns-then-answer-lt-SHAPE_LENGTH : goal.returns-then-answer-lt-SHAPE_LENGTH

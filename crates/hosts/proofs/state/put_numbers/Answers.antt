@@ -1,13 +1,9 @@
 -- `state::put_numbers` meets its contract.
 -- Assumes nothing.
-use borrow.Author.Rules.{rules}
-use mathlib.Core.Path.{◌≡◌, refl}
-use Prim.Native.Nat.{◌-◌, ◌≤◌}
+use mathlib.Core.Path.{refl}
 use native.Mathlib.Omega.{arith}
-use lib.ListN.{length, get_or, length-set}
-use lib.Seq.{sets}
-use Rattle.places.specs.Places.{table}
-use Rattle.places.proofs.Stores.{stored-none, stored-turn, stored-all}
+use lib.ListN.{get_or, length-set}
+use Rattle.places.proofs.Stores.{stored-none, stored-turn}
 use Rattle.hosts.proofs.state.put_numbers.Goals as goal
 
 pub loop-i-init : goal.loop-i-init

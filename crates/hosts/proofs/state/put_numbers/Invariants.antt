@@ -1,13 +1,10 @@
 -- `state::put_numbers` meets its contract.
 -- Assumes nothing.
-use borrow.Author.Rules.{rules}
-use mathlib.Core.Path.{◌≡◌, refl}
+use mathlib.Core.Path.{◌≡◌}
 use Prim.Native.Nat.{◌-◌, ◌≤◌}
-use native.Mathlib.Omega.{arith}
-use lib.ListN.{length, get_or, length-set}
+use lib.ListN.{length, get_or}
 use lib.Seq.{sets}
 use Rattle.places.specs.Places.{table}
-use Rattle.places.proofs.Stores.{stored-none, stored-turn, stored-all}
 use Rattle.hosts.proofs.state.put_numbers.Given as goal
 
 abbrev pub invariant-loop-i : goal.invariant-loop-i
