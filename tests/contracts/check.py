@@ -39,7 +39,7 @@ CITED = re.compile(r"`([a-z_0-9]+(?:\.[^\s`.]+){2,})`")
 CELL = re.compile(r"(?<!\\)\|")
 QUOTED = re.compile(r"`([^`]*)`")
 LAWS = {"mul.rs": "Mul", "div_mod.rs": "DivMod", "power.rs": "Power", "logarithm.rs": "Logarithm"}
-WIDTHS = ("narrow.checked8", "narrow.checked16", "narrow.checked32", "checked.checked64")
+METHODS = "checked.number"
 SOURCES = {}
 
 Row = collections.namedtuple("Row", "line file function kind words here verdict reason")
@@ -61,7 +61,7 @@ def statement(name):
     """What a cited name is declared as: a law's type, '' for anything else that is there, None where nothing is."""
     crate, *path, last = name.split(".")
     antt = re.compile(rf"^([ \t]*)(?:unfoldable |abbrev )*pub (data |record )?{re.escape(last)}(?=\s|$)", re.M)
-    rt = re.compile(rf"^\s*pub (?:extern \"C\" )?(?:fn|enum|struct|const) {re.escape(last)}\b", re.M)
+    rt = re.compile(rf"^\s*pub (?:extern \"C\" )?(?:fn|enum|struct|const|type) {re.escape(last)}\b", re.M)
     for room in ("proofs", "specs"):
         text = source(crate, room, *path[:-1], path[-1] + ".antt")
         found = antt.search(text)
@@ -154,9 +154,8 @@ def citation_faults(rows, page):
         if lawful and cited and own(row) not in cited:
             faults.append(f"line {row.line}: `{own(row)}` is not among what is cited for {row.function}")
         if row.file == "overflow.rs" and row.kind in ("requires", "ensures") and row.verdict != "left out":
-            for width in WIDTHS:
-                if f"{width}.{row.function}" not in cited:
-                    faults.append(f"line {row.line}: `{width}.{row.function}` is not among what is cited")
+            if f"{METHODS}.{row.function}" not in cited:
+                faults.append(f"line {row.line}: `{METHODS}.{row.function}` is not among what is cited")
         for name, rest in re.findall(CITED.pattern + r"([^`]*)", row.here):
             told = statement(name)
             for part in re.findall(r"(?<![\w.])\.(\d+)", rest):

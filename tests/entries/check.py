@@ -30,7 +30,7 @@ import sys
 
 TOP = os.path.dirname(os.path.dirname(os.path.dirname(os.path.abspath(__file__))))
 FUNCTION = re.compile(r'^(\s*)(?:#\[[^\]]*\]\s*)?pub (?:extern "C" )?fn ([A-Za-z_0-9]+)')
-METHODS_OF = re.compile(r"^impl ([A-Za-z_0-9]+) \{")
+METHODS_OF = re.compile(r"^impl(?:<[^{]*>)? ([A-Za-z_0-9]+)(?:<[^{]*>)? \{")
 OF_FUNCTION = re.compile(r"\| `[a-z_0-9]+::")
 CLAUSE = re.compile(r"^    ensures .*?\}$", re.M | re.S)
 DOORS = "\n## Doors\n"

@@ -47,11 +47,15 @@ end program
 """
 
 
-def table():
-    """The code's refusals: number and name, in the header's spelling."""
+def code_names():
+    """The code's refusals: number and name, as the code spells it."""
     text = (ROOT / "crates" / "checked" / "src" / "refusal.rt").read_text()
-    pairs = re.findall(r"Refusal::(\w+) => (\d+),", text)
-    return {int(number): re.sub(r"(?<!^)(?=[A-Z])", "_", name).upper() for name, number in pairs}
+    return {int(number): name for name, number in re.findall(r"Refusal::(\w+) => (\d+),", text)}
+
+
+def table():
+    """The same with the names in the header's spelling."""
+    return {number: re.sub(r"(?<!^)(?=[A-Z])", "_", name).upper() for number, name in code_names().items()}
 
 
 def printed(compiler, options, program, suffix):
@@ -69,9 +73,10 @@ def header_words(numbers):
 
 
 def razo_words():
-    """Its phrases, which stand in the order of the refusals' numbers from 1 on."""
+    """Its phrases, by the refusals' numbers from 1 on."""
     text = (ROOT / "crates" / "razo" / "src" / "reason.rt").read_text()
-    return re.search(r'let phrases = b"\\\n(.*?)\n";', text, re.DOTALL).group(1).split("\n")
+    phrases = dict(re.findall(r'Refusal::(\w+) => (?:\{\s*)?"([^"]*)"', text))
+    return [phrases.get(name) for _, name in sorted(code_names().items())]
 
 
 def fortran_texts():

@@ -4,28 +4,27 @@
 use mathlib.Core.Path.{◌≡◌, refl, sym, ◌∙◌}
 use mathlib.Core.List.{List}
 use Prim.Native.Nat.{ℕ}
+use Rattle.std.specs.Prelude.{Result, Ok, Err}
+use Rattle.checked.specs.declared.refusal.Refusal.{Refusal}
 use Rattle.checked.proofs.Unique.{gives, refuses, told-apart}
 use Rattle.little.proofs.Unique.{value-unique}
 use Rattle.layout.specs.Reading.{numbers_after, marks_after}
-use Rattle.block.specs.declared.types.Sound.{Sound}
-use Rattle.block.specs.declared.types.Sound.TheVariants as sound
-use Rattle.block.specs.declared.types.Read.{Read}
-use Rattle.block.specs.declared.types.Read.TheVariants as read
+use Rattle.block.specs.declared.types.Head.{Head}
 use Rattle.block.specs.Answers.{looked, reading, Reads}
 
-pub sound-unique : (a b : Sound) → looked a ≡ looked b → a ≡ b
+pub sound-unique : (a b : Result (Unit {0}) Refusal) → looked a ≡ looked b → a ≡ b
 sound-unique =
-    told-apart (λ l. l.code) (λ l. sound.Sound) (λ l r. sound.Refused r) looked
-    (elim [ sound.Sound ↦ gives refl refl | sound.Refused r ↦ refuses r refl refl ])
+    told-apart (λ l. l.code) (λ l. Ok tt) (λ l r. Err r) looked
+    (elim [ Ok u ↦ gives refl refl | Err r ↦ refuses r refl refl ])
 
-answer-unique : (a b : Read) → reading a ≡ reading b → a ≡ b
+answer-unique : (a b : Result Head Refusal) → reading a ≡ reading b → a ≡ b
 answer-unique =
-    told-apart (λ r. r.code) (λ r. read.Values r.number r.count) (λ s r. read.Refused r) reading
-    (elim [ read.Values n c ↦ gives refl refl | read.Refused r ↦ refuses r refl refl ])
+    told-apart (λ r. r.code) (λ r. Ok (record { number = r.number; count = r.count })) (λ s r. Err r) reading
+    (elim [ Ok h ↦ gives refl refl | Err r ↦ refuses r refl refl ])
 
 -- two answers that meet the contract, each with its two lists, are the same answer with the same lists
 pub read-unique
-    : (block numbers marks : List ℕ) (a b : Read) (ns ms ns' ms' : List ℕ) →
+    : (block numbers marks : List ℕ) (a b : Result Head Refusal) (ns ms ns' ms' : List ℕ) →
     Reads block numbers marks a ns ms → Reads block numbers marks b ns' ms' →
     (a ≡ b) × (ns ≡ ns') × (ms ≡ ms')
 read-unique block numbers marks a b ns ms ns' ms' p q = (

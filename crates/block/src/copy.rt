@@ -12,10 +12,8 @@ pub(crate) fn copy_numbers(b: &[u8], first: usize, count: usize, numbers: &mut [
     requires { (length b.now ≡ block_length) × (first + 8 * count ≤ marks_at) × (count ≤ length numbers.old) }
     ensures { numbers.new ≡ over (number_from first b.now) count numbers.old }
 {
-    let mut i = 0;
-    while i < count {
+    for i in 0..count {
         numbers[i] = long_at(b, first + 8 * i);
-        i = i + 1;
     }
 }
 
@@ -23,9 +21,5 @@ pub(crate) fn copy_marks(b: &[u8], count: usize, marks: &mut [u8])
     requires { (length b.now ≡ block_length) × (marks_at + count ≤ block_length) × (count ≤ length marks.old) }
     ensures { marks.new ≡ over (mark b.now) count marks.old }
 {
-    let mut i = 0;
-    while i < count {
-        marks[i] = b[MARKS_AT + i];
-        i = i + 1;
-    }
+    marks[..count].copy_from_slice(&b[MARKS_AT..MARKS_AT + count]);
 }

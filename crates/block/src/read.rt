@@ -8,40 +8,35 @@ ghost use Rattle.block.specs.Answers.{reading};
 use crate::bytes::word_at;
 use crate::copy::{copy_marks, copy_numbers};
 use crate::sound::sound;
-use crate::types::{Read, Sound};
+use crate::types::Head;
 use checked::refusal::Refusal;
 use layout::one;
 
 // Room is looked at in both lists before either is written.
-fn values(block: &[u8], numbers: &mut [u64], marks: &mut [u8]) -> Read
+fn values(block: &[u8], numbers: &mut [u64], marks: &mut [u8]) -> Result<Head, Refusal>
     requires { fault_of block.now ≡ 0 }
     ensures result_value { reading result ≡ reading_of block.now numbers.old marks.old }
     ensures numbers_new { numbers.new ≡ numbers_after block.now numbers.old marks.old }
     ensures marks_new { marks.new ≡ marks_after block.now numbers.old marks.old }
 {
     let count = block[4] as usize;
-    if numbers.len() < count {
-        return Read::Refused(Refusal::ListTooShort);
-    }
-    if marks.len() < count {
-        return Read::Refused(Refusal::ListTooShort);
+    if numbers.len() < count || marks.len() < count {
+        return Err(Refusal::ListTooShort);
     }
     copy_numbers(block, one::FIRST, count, numbers);
     copy_marks(block, count, marks);
-    Read::Values {
+    Ok(Head {
         number: word_at(block, 0),
         count,
-    }
+    })
 }
 
 // The block's number and count, with its values written; or 16, 17, 18 or 19.
-pub fn read(block: &[u8], numbers: &mut [u64], marks: &mut [u8]) -> Read
+pub fn read(block: &[u8], numbers: &mut [u64], marks: &mut [u8]) -> Result<Head, Refusal>
     ensures result_value { reading result ≡ reading_of block.now numbers.old marks.old }
     ensures numbers_new { numbers.new ≡ numbers_after block.now numbers.old marks.old }
     ensures marks_new { marks.new ≡ marks_after block.now numbers.old marks.old }
 {
-    match sound(block) {
-        Sound::Sound => values(block, numbers, marks),
-        Sound::Refused(refusal) => Read::Refused(refusal),
-    }
+    sound(block)?;
+    values(block, numbers, marks)
 }

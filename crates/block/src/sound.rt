@@ -7,60 +7,46 @@ ghost use Rattle.block.specs.Answers.{looked, sound_of};
 ghost use Rattle.block.specs.Marks.{marks_fine, no_marks};
 
 use crate::bytes::{long_at, word_at};
-use crate::types::Sound;
 use checked::refusal::Refusal;
 use checksum::sum::check_sum;
 use layout::{BLOCK_LENGTH, CHECK_AT, HEAD_AT, MARKS_AT, one};
 use little::bytes::all_zero;
 
-// A mark of 0, or of 1 with the number 0, where the numbers begin at place `first`.
-fn well_marked(b: &[u8], first: usize, i: usize) -> bool
-    requires { (length b.now ≡ block_length) × (first + 8 * i < marks_at) }
+// A mark of 0, or of 1 with the number 0, where the numbers begin at place `first`. Block, `first` and `count` are no type of
+// their own: one that holds what `marks_fine` and `copy_numbers` ask would be made twice and taken apart in each of them.
+fn well_marked(b: &[u8; BLOCK_LENGTH], first: usize, i: usize) -> bool
+    requires { first + 8 * i < marks_at }
     ensures { result ≡ place_well_marked first b.now i }
 {
     let mark = b[MARKS_AT + i];
-    if mark == 0 {
-        return true;
-    }
-    if mark != 1 {
-        return false;
-    }
-    long_at(b, first + 8 * i) == 0
+    mark == 0 || mark == 1 && long_at(b, first + 8 * i) == 0
 }
 
 // The marks in use, one by one.
-fn all_well_marked(b: &[u8], first: usize, count: usize) -> bool
-    requires { (length b.now ≡ block_length) × (first + 8 * count ≤ marks_at) }
+fn all_well_marked(b: &[u8; BLOCK_LENGTH], first: usize, count: usize) -> bool
+    requires { first + 8 * count ≤ marks_at }
     ensures { result ≡ every (place_well_marked first b.now) count }
 {
-    let mut i = 0;
-    while i < count {
+    for i in 0..count {
         if !well_marked(b, first, i) {
             return false;
         }
-        i = i + 1;
     }
     true
 }
 
 // The marks, used and unused, and the zeros after them. Most blocks have no mark at all, which one look over all of
 // them shows.
-fn marks_fine(b: &[u8], first: usize, count: usize) -> bool
-    requires { (length b.now ≡ block_length) × (first + 8 * count ≤ marks_at) }
+fn marks_fine(b: &[u8; BLOCK_LENGTH], first: usize, count: usize) -> bool
+    requires { first + 8 * count ≤ marks_at }
     ensures { result ≡ marks_fine first b.now count }
 {
-    if all_zero(b, MARKS_AT, CHECK_AT) {
-        return true;
-    }
-    if !all_zero(b, MARKS_AT + count, CHECK_AT) {
-        return false;
-    }
-    all_well_marked(b, first, count)
+    all_zero(b, MARKS_AT, CHECK_AT)
+        || all_zero(b, MARKS_AT + count, CHECK_AT) && all_well_marked(b, first, count)
 }
 
 // The layout of edition 1.
-fn has_layout_one(b: &[u8]) -> bool
-    requires { length b.now ≡ block_length }
+fn has_layout_one(b: &[u8; BLOCK_LENGTH]) -> bool
     ensures { result ≡ has_layout_as one b.now }
 {
     if b[5] != one::TAG {
@@ -80,27 +66,24 @@ fn has_layout_one(b: &[u8]) -> bool
 }
 
 // Sound, or 16, 17 or 18.
-pub fn sound(block: &[u8]) -> Sound
+pub fn sound(block: &[u8]) -> Result<(), Refusal>
     ensures { looked result ≡ sound_of block.now }
 {
-    if block.len() != BLOCK_LENGTH {
-        return Sound::Refused(Refusal::BlockLength);
-    }
+    let Ok(block) = <&[u8; BLOCK_LENGTH]>::try_from(block) else {
+        return Err(Refusal::BlockLength);
+    };
     if word_at(block, CHECK_AT) != check_sum(block) {
-        return Sound::Refused(Refusal::WrongCheck);
+        return Err(Refusal::WrongCheck);
     }
-    if has_layout_one(block) {
-        return Sound::Sound;
+    if !has_layout_one(block) {
+        return Err(Refusal::BadLayout);
     }
-    Sound::Refused(Refusal::BadLayout)
+    Ok(())
 }
 
 // Whether a block has no mark at all, which is soon told; a list of another length is no block.
 pub fn unmarked(block: &[u8]) -> bool
     ensures { result ≡ no_marks block.now }
 {
-    if block.len() != BLOCK_LENGTH {
-        return false;
-    }
-    all_zero(block, MARKS_AT, one::PAST)
+    block.len() == BLOCK_LENGTH && all_zero(block, MARKS_AT, one::PAST)
 }

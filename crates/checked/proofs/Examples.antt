@@ -3,7 +3,7 @@
 use mathlib.Core.Path.{◌≡◌, refl}
 use Rattle.whole.specs.DivMod.{◌/ℤ◌}
 use Rattle.whole.specs.Logarithm.{ends, log_within, log, log_of}
-use Rattle.checked.specs.declared.types.Checked64.TheVariants.{Fits, Overflowed}
+use Rattle.checked.specs.declared.types.Checked.TheVariants.{Fits, Overflowed}
 use Rattle.checked.specs.Value.{limit_of, checked_of, sum_of, product_of}
 use Rattle.checked.specs.Paper.{given, refused, quotient_of, remainder_of, power_of, logarithm_of}
 

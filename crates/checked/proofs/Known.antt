@@ -11,7 +11,7 @@ use native.Mathlib.Omega.{arith}
 use borrow.Author.Tests.{ne_eqb, le-ltb}
 use Rattle.whole.specs.Logarithm.{log_of}
 use Rattle.whole.proofs.Naturals.{log-of-small}
-use Rattle.checked.specs.declared.types.Checked64.TheVariants.{Fits, Overflowed}
+use Rattle.checked.specs.declared.types.Checked.TheVariants.{Fits, Overflowed}
 use Rattle.checked.specs.Value.{Value, Stands, FirstFits, checked_of, least, raised_of}
 use Rattle.checked.specs.Paper.{Paper, given, refused, value_in, divided_by, left_by, log_by}
 use Rattle.checked.specs.Paper.{asking, quotient_of, remainder_of, logarithm_of}

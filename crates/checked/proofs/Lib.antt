@@ -12,5 +12,6 @@ pub mod Refused
 pub mod Known
 pub mod Unique
 pub mod Promises
+pub mod Widths
 pub mod Overflow
 pub mod Examples

@@ -1,4 +1,4 @@
--- Upstream's `overflow.rs`: its clauses (`Clauses`) hold of any type that is seen as values over M. Of the four types,
+-- Upstream's `overflow.rs`: its clauses (`Clauses`) hold of any type that is seen as values over M. Of the four widths,
 -- 64 bits is here, and 8, 16 and 32 bits are in `narrow`.
 -- Assumes nothing.
 use mathlib.Core.Path.{◌≡◌, refl, ap, sym, ◌∙◌, subst}
@@ -8,14 +8,13 @@ use Prim.Native.Nat.{ℕ, ◌+◌, ◌*◌, ◌≤◌, ◌<◌}
 use native.Mathlib.Omega.{arith}
 use mir.Syntax.{Width}
 use mir.Val as machine
+use Rattle.std.specs.Prelude.{Option, Some, None, Result, Ok, Err}
+use Rattle.checked.specs.declared.refusal.Refusal.{Refusal}
 use Rattle.checked.specs.declared.refusal.Refusal.TheVariants as refusal
-use Rattle.checked.specs.declared.types.Plain64.{Plain64}
-use Rattle.checked.specs.declared.types.Plain64.TheVariants as p64
-use Rattle.checked.specs.declared.types.Option64.{Option64}
-use Rattle.checked.specs.declared.types.Option64.TheVariants as o64
-use Rattle.checked.specs.declared.types.Checked64.TheVariants.{Fits, Overflowed}
-use Rattle.checked.specs.Value.{Value, limit_of, Stands, is_overflowed, checked_of, least, option}
-use Rattle.checked.specs.Paper.{plain, plain_of}
+use Rattle.checked.specs.declared.types.Checked.{Checked}
+use Rattle.checked.specs.declared.types.Checked.TheVariants.{Fits, Overflowed}
+use Rattle.checked.specs.Value.{Value, limit_of, Stands, is_overflowed, value_by, checked_of, least, option_by}
+use Rattle.checked.specs.Paper.{plain_by, plain_of}
 use Rattle.checked.specs.Clauses.{Seen, Clauses}
 use Rattle.checked.proofs.Limit.{fits, over}
 use Rattle.checked.proofs.Promises.{limit-is-largest, sum-stands, product-stands}
@@ -98,25 +97,33 @@ module _ (C P O : Type 0) (T : Seen C P O) (M : ℕ) where
             as-seen (i * j) e (product-stands M (T.value self) (T.value v) i j known other);
       }
 
--- ---- 64 bits: a value is seen as itself
+-- ---- checked numbers of any type, whose numbers are told apart by the whole numbers that they are, and which has one
+-- for each whole number that is asked for
 
-abbrev pub seen64 : Seen Value Plain64 Option64
-seen64 =
-    record {
-      value = λ c. c;
-      plain = plain;
-      option = option;
-      number = p64.Number;
-      number-seen = λ n. refl;
-      refusal-3 = p64.Refused refusal.Overflowed;
-      refusal-3-seen = refl;
-      plain-unique = plain-unique;
-      some = o64.Some;
-      some-seen = λ n. refl;
-      none = o64.None;
-      none-seen = refl;
-      option-unique = option-unique;
-    }
+module _ (N : Type 0) (number : N → ℕ) (apart : (x y : N) → number x ≡ number y → x ≡ y) (of : ℕ → N) (back : (n : ℕ) → number (of n) ≡ n) where
+  abbrev pub seen : Seen (Checked N) (Result N Refusal) (Option N)
+  seen =
+      record {
+        value = value_by number;
+        plain = plain_by number;
+        option = option_by number;
+        number = λ n. Ok (of n);
+        number-seen = λ n. ap (λ m. plain_by (λ k. k) (Ok m)) (back n);
+        refusal-3 = Err refusal.Overflowed;
+        refusal-3-seen = refl;
+        plain-unique = plain-unique number apart;
+        some = λ n. Some (of n);
+        some-seen = λ n. ap Fits (back n);
+        none = None;
+        none-seen = refl;
+        option-unique = option-unique number apart;
+      }
 
-pub clauses64 : Clauses Value Plain64 Option64 seen64 (limit_of 64)
-clauses64 = clauses Value Plain64 Option64 seen64 (limit_of 64)
+-- the numbers of each width are whole numbers
+abbrev pub seen_plain : Seen Value (Result ℕ Refusal) (Option ℕ)
+seen_plain = seen ℕ (λ n. n) (λ x y e. e) (λ n. n) (λ n. refl)
+
+-- ---- 64 bits
+
+pub clauses64 : Clauses Value (Result ℕ Refusal) (Option ℕ) seen_plain (limit_of 64)
+clauses64 = clauses Value (Result ℕ Refusal) (Option ℕ) seen_plain (limit_of 64)

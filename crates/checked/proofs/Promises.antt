@@ -11,8 +11,8 @@ use borrow.Author.Tests.{ne_eqb, lt-ltb, le-ltb}
 use lib.Pow.{pow_pos}
 use Rattle.whole.specs.Logarithm.{log_of}
 use Rattle.whole.proofs.Naturals.{log-of-zero, log-of-floor, log-of-largest}
-use Rattle.checked.specs.declared.types.Both.{Both}
-use Rattle.checked.specs.declared.types.Checked64.TheVariants.{Fits, Overflowed}
+use Rattle.std.specs.Prelude.{Option}
+use Rattle.checked.specs.declared.types.Checked.TheVariants.{Fits, Overflowed}
 use Rattle.checked.specs.Value.{Value, limit_of, Stands, Within, checked_of, least, sum_of, product_of, raised_of}
 use Rattle.checked.specs.Value.{both_of, BothNumbers, FirstFits, OneOverflowed}
 use Rattle.checked.specs.Paper.{Paper, given, refused, divided_by, left_by, log_by}
@@ -82,7 +82,7 @@ pub both-given : (l r : ℕ) → pair_of (Fits l) (Fits r) ≡ record { code = 0
 both-given l r = refl
 
 -- and this is what its contract says, no more and no less
-pub both-in-numbers : (a b : Value) (x : Both) → (x ≡ both_of a b) ↔ (pair x ≡ pair_of a b)
+pub both-in-numbers : (a b : Value) (x : Option (ℕ × ℕ)) → (x ≡ both_of a b) ↔ (pair x ≡ pair_of a b)
 both-in-numbers a b x =
     (λ e. ap pair e ∙ refusals.pair-of-both a b, both-is a b)
 

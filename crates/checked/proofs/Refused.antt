@@ -8,7 +8,7 @@ use Prim.Native.Nat.{ℕ, ◌≤◌, ◌<◌}
 use native.Mathlib.Omega.{arith}
 use borrow.Author.Tests.{eqb-true, eqb-false, eq-eqb, ne_eqb, ltb-true, ltb-false, lt-ltb, le-ltb}
 use lib.Dec.{eqb, ltb}
-use Rattle.checked.specs.declared.types.Checked64.TheVariants.{Fits, Overflowed}
+use Rattle.checked.specs.declared.types.Checked.TheVariants.{Fits, Overflowed}
 use Rattle.checked.specs.Value.{Value, both_of, BothNumbers, FirstFits, OneOverflowed}
 use Rattle.checked.specs.Paper.{Paper, given, refused, value_in, asking}
 use Rattle.checked.specs.Pair.{pair, pair_of}
@@ -80,7 +80,7 @@ pub not-overflowed : (n : ℕ) → Fits n ≡ Overflowed → ⊥
 unfolding Fitting
 not-overflowed n e = subst Fitting e tt
 
-same-number : (m n : ℕ) → Fits m ≡ Fits n → m ≡ n
+pub same-number : (m n : ℕ) → Fits m ≡ Fits n → m ≡ n
 unfolding number_in
 same-number m n e = ap number_in e
 

@@ -6,23 +6,17 @@ use mathlib.Core.Bool.{false, cond}
 use mathlib.Core.List.{List, [], ◌∷◌}
 use Prim.Native.Nat.{ℕ}
 use native.Mathlib.Omega.{arith}
-use borrow.Author.Tests.{eq-eqb, ne_eqb}
+use borrow.Author.Tests.{eqb-false, eq-eqb, ne_eqb}
 use lib.Dec.{eqb}
 use Rattle.checked.specs.declared.refusal.Refusal.{Refusal}
 use Rattle.checked.specs.declared.refusal.Refusal.TheVariants as refusal
-use Rattle.checked.specs.declared.types.Checked64.TheVariants as c64
-use Rattle.checked.specs.declared.types.Answer64.{Answer64}
-use Rattle.checked.specs.declared.types.Answer64.TheVariants as a64
-use Rattle.checked.specs.declared.types.Plain64.{Plain64}
-use Rattle.checked.specs.declared.types.Plain64.TheVariants as p64
-use Rattle.checked.specs.declared.types.Option64.{Option64}
-use Rattle.checked.specs.declared.types.Option64.TheVariants as o64
-use Rattle.checked.specs.declared.types.Both.{Both}
-use Rattle.checked.specs.declared.types.Both.TheVariants as both
-use Rattle.checked.specs.Value.{Value, option, both_of}
-use Rattle.checked.specs.Paper.{paper, plain, number_of, value_in}
+use Rattle.std.specs.Prelude.{Option, Some, None, Result, Ok, Err}
+use Rattle.checked.specs.declared.types.Checked.{Checked}
+use Rattle.checked.specs.declared.types.Checked.TheVariants.{Fits, Overflowed}
+use Rattle.checked.specs.Value.{Value, value_by, option_by, both_of}
+use Rattle.checked.specs.Paper.{given, refused, paper, paper_by, plain_by, number_of, value_in}
 use Rattle.checked.specs.Pair.{pair, pair_of}
-use Rattle.checked.proofs.Refused.{pair-of-both}
+use Rattle.checked.proofs.Refused.{given-code, value-given, not-overflowed, same-number, pair-of-both}
 
 -- what has a way back is determined by where it goes
 pub one : {A B : Type 0} (f : A → B) (back : B → A) → ((x : A) → back (f x) ≡ x) → (x y : A) → f x ≡ f y → x ≡ y
@@ -122,29 +116,60 @@ module _ {A S : Type 0} (code : S → ℕ) (values : S → A) (refused : S → R
       pub told-apart : (x y : A) → told x ≡ told y → x ≡ y
       told-apart x y = both-told-apart x y (each x) (each y)
 
--- ---- 64 bits
+-- ---- answers of whole numbers
 
-paper-told : (x : Answer64) → Told (λ p. p.code) (λ p. a64.Value (value_in p)) (λ p. a64.Refused) paper x
-paper-told (a64.Value (c64.Fits n)) = gives refl refl
-paper-told (a64.Value c64.Overflowed) = gives refl refl
-paper-told (a64.Refused r) = refuses r refl refl
+paper-told : (x : Result Value Refusal) → Told (λ p. p.code) (λ p. Ok (value_in p)) (λ p. Err) paper x
+paper-told (Ok (Fits n)) = gives refl refl
+paper-told (Ok Overflowed) = gives refl refl
+paper-told (Err r) = refuses r refl refl
 
-pub paper-unique : (x y : Answer64) → paper x ≡ paper y → x ≡ y
-paper-unique = told-apart (λ p. p.code) (λ p. a64.Value (value_in p)) (λ p. a64.Refused) paper paper-told
+pub paper-unique : (x y : Result Value Refusal) → paper x ≡ paper y → x ≡ y
+paper-unique = told-apart (λ p. p.code) (λ p. Ok (value_in p)) (λ p. Err) paper paper-told
 
-pub plain-unique : (x y : Plain64) → plain x ≡ plain y → x ≡ y
-plain-unique =
-    told-apart (λ p. p.code) (λ p. p64.Number p.number) (λ p. p64.Refused) plain
-    (elim [ p64.Number n ↦ gives refl refl | p64.Refused r ↦ refuses r refl refl ])
-
-pub option-unique : (x y : Option64) → option x ≡ option y → x ≡ y
-option-unique = one option (elim [ c64.Fits n ↦ o64.Some n | c64.Overflowed ↦ o64.None ]) (elim [ o64.Some n ↦ refl | o64.None ↦ refl ])
-
-pub pair-unique : (x y : Both) → pair x ≡ pair y → x ≡ y
+pub pair-unique : (x y : Option (ℕ × ℕ)) → pair x ≡ pair y → x ≡ y
 pair-unique =
-    one pair (λ p. cond (eqb p.code 0) (both.Numbers p.left p.right) both.Overflowed)
-    (elim [ both.Numbers l r ↦ refl | both.Overflowed ↦ refl ])
+    one pair (λ p. cond (eqb p.code 0) (Some (p.left, p.right)) None)
+    (elim [ Some p ↦ refl | None ↦ refl ])
 
 -- so an answer is `both_of` by its numbers
-pub both-is : (a b : Value) {x : Both} → pair x ≡ pair_of a b → x ≡ both_of a b
+pub both-is : (a b : Value) {x : Option (ℕ × ℕ)} → pair x ≡ pair_of a b → x ≡ both_of a b
 both-is a b {x = x} e = pair-unique x (both_of a b) (e ∙ sym (pair-of-both a b))
+
+-- ---- of any type whose numbers are told apart by the whole numbers that they are
+
+-- a value of whole numbers is itself
+pub value-same : (c : Value) → value_by (λ n. n) c ≡ c
+value-same (Fits n) = refl
+value-same Overflowed = refl
+
+-- what is given is told by its numbers, and is never what a refusal is
+same-value : (c d : Value) → given c ≡ given d → c ≡ d
+same-value c d e = sym (value-given c) ∙ ap value_in e ∙ value-given d
+
+never-refused : (c : Value) (r : Refusal) → given c ≡ refused (number_of r) → ⊥
+never-refused c r e = eqb-false (number_of r) 0 (not-zero r) (sym (ap (λ p. p.code) e) ∙ given-code c)
+
+module _ {N : Type 0} (number : N → ℕ) (apart : (x y : N) → number x ≡ number y → x ≡ y) where
+  pub value-unique : (x y : Checked N) → value_by number x ≡ value_by number y → x ≡ y
+  value-unique (Fits m) (Fits n) e = ap Fits (apart m n (same-number (number m) (number n) e))
+  value-unique (Fits m) Overflowed e = absurd (not-overflowed (number m) e)
+  value-unique Overflowed (Fits n) e = absurd (not-overflowed (number n) (sym e))
+  value-unique Overflowed Overflowed e = refl
+
+  pub option-unique : (x y : Option N) → option_by number x ≡ option_by number y → x ≡ y
+  option-unique (Some m) (Some n) e = ap Some (apart m n (same-number (number m) (number n) e))
+  option-unique (Some m) None e = absurd (not-overflowed (number m) e)
+  option-unique None (Some n) e = absurd (not-overflowed (number n) (sym e))
+  option-unique None None e = refl
+
+  pub paper-by-unique : (x y : Result (Checked N) Refusal) → paper_by number x ≡ paper_by number y → x ≡ y
+  paper-by-unique (Ok c) (Ok d) e = ap Ok (value-unique c d (same-value (value_by number c) (value_by number d) e))
+  paper-by-unique (Ok c) (Err r) e = absurd (never-refused (value_by number c) r e)
+  paper-by-unique (Err r) (Ok d) e = absurd (never-refused (value_by number d) r (sym e))
+  paper-by-unique (Err r) (Err s) e = ap Err (refusal-unique r s (ap (λ p. p.code) e))
+
+  pub plain-unique : (x y : Result N Refusal) → plain_by number x ≡ plain_by number y → x ≡ y
+  plain-unique (Ok m) (Ok n) e = ap Ok (apart m n (ap (λ p. p.number) e))
+  plain-unique (Ok m) (Err r) e = absurd (never-refused (Fits (number m)) r e)
+  plain-unique (Err r) (Ok n) e = absurd (never-refused (Fits (number n)) r (sym e))
+  plain-unique (Err r) (Err s) e = ap Err (refusal-unique r s (ap (λ p. p.code) e))

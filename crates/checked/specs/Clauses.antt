@@ -3,7 +3,7 @@
 -- clause holds of each of them. `$uty::MAX` is the limit M.
 -- Assumes nothing.
 use Rattle.std.specs.Prelude.{◌≡◌, ◌↔◌, Bool, true, ℕ, ◌+◌, ◌*◌, ◌≤◌, ◌<◌}
-use Rattle.checked.specs.declared.types.Checked64.TheVariants.{Fits, Overflowed}
+use Rattle.checked.specs.declared.types.Checked.TheVariants.{Fits, Overflowed}
 use Rattle.checked.specs.Value.{Value, Stands, UpTo, Typed, is_overflowed, sum_of, product_of}
 use Rattle.checked.specs.Paper.{Paper, given, refused, plain_of}
 

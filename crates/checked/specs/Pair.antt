@@ -1,10 +1,8 @@
 -- What `both` answers, in numbers: 0 and 0 with the two numbers; or 3 and 0, as for a plain number that is asked of an
 -- overflowed value.
 -- Assumes nothing.
-use Rattle.std.specs.Prelude.{ℕ}
-use Rattle.checked.specs.declared.types.Both.{Both}
-use Rattle.checked.specs.declared.types.Both.TheVariants as both
-use Rattle.checked.specs.declared.types.Checked64.TheVariants.{Fits, Overflowed}
+use Rattle.std.specs.Prelude.{Option, Some, None, ℕ}
+use Rattle.checked.specs.declared.types.Checked.TheVariants.{Fits, Overflowed}
 use Rattle.checked.specs.Value.{Value}
 
 pub record Pair : Type 0 where
@@ -13,9 +11,9 @@ pub record Pair : Type 0 where
   pub left : ℕ
   pub right : ℕ
 
-abbrev pub pair : Both → Pair
-pair (both.Numbers l r) = record { code = 0; place = 0; left = l; right = r }
-pair both.Overflowed = record { code = 3; place = 0; left = 0; right = 0 }
+abbrev pub pair : Option (ℕ × ℕ) → Pair
+pair (Some p) = record { code = 0; place = 0; left = p.0; right = p.1 }
+pair None = record { code = 3; place = 0; left = 0; right = 0 }
 
 -- both numbers of two values, where both fit
 abbrev pub pair_of : Value → Value → Pair

@@ -1,15 +1,12 @@
 -- What an operation answers, in numbers: the refusal's number and place, or 0 and 0 with the value's mark and number.
 -- Assumes nothing.
-use Rattle.std.specs.Prelude.{cond, ℕ, ◌+◌, ◌*◌, ◌/◌, ◌%◌, ◌^◌, eqb, ltb}
+use Rattle.std.specs.Prelude.{Result, Ok, Err, cond, ℕ, ◌+◌, ◌*◌, ◌/◌, ◌%◌, ◌^◌, eqb, ltb}
 use Rattle.whole.specs.Logarithm.{log_of}
 use Rattle.checked.specs.declared.refusal.Refusal.{Refusal}
 use Rattle.checked.specs.declared.refusal.Refusal.TheVariants as refusal
-use Rattle.checked.specs.declared.types.Answer64.{Answer64}
-use Rattle.checked.specs.declared.types.Answer64.TheVariants as answer
-use Rattle.checked.specs.declared.types.Plain64.{Plain64}
-use Rattle.checked.specs.declared.types.Plain64.TheVariants as plain64
-use Rattle.checked.specs.declared.types.Checked64.TheVariants.{Fits, Overflowed}
-use Rattle.checked.specs.Value.{Value, checked_of, raised_of}
+use Rattle.checked.specs.declared.types.Checked.{Checked}
+use Rattle.checked.specs.declared.types.Checked.TheVariants.{Fits, Overflowed}
+use Rattle.checked.specs.Value.{Value, value_by, checked_of, raised_of}
 
 pub record Paper : Type 0 where
   pub code : ℕ
@@ -55,13 +52,19 @@ given Overflowed = record { code = 0; place = 0; mark = 1; number = 0 }
 abbrev pub value_in : Paper → Value
 value_in p = cond (eqb p.mark 0) (Fits p.number) Overflowed
 
-abbrev pub paper : Answer64 → Paper
-paper (answer.Value c) = given c
-paper (answer.Refused r) = refused (number_of r)
+-- an answer of whole numbers, and one of any type
+abbrev pub paper : Result Value Refusal → Paper
+paper (Ok c) = given c
+paper (Err r) = refused (number_of r)
 
-abbrev pub plain : Plain64 → Paper
-plain (plain64.Number n) = given (Fits n)
-plain (plain64.Refused r) = refused (number_of r)
+abbrev pub paper_by : {N : Type 0} → (N → ℕ) → Result (Checked N) Refusal → Paper
+paper_by number (Ok c) = given (value_by number c)
+paper_by number (Err r) = refused (number_of r)
+
+-- a plain number of any type
+abbrev pub plain_by : {N : Type 0} → (N → ℕ) → Result N Refusal → Paper
+plain_by number (Ok n) = given (Fits (number n))
+plain_by number (Err r) = refused (number_of r)
 
 -- ---- on numbers
 

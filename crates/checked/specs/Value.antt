@@ -1,16 +1,17 @@
 -- Checked values over a limit M: what they stand for, their sum, their product and their power.
--- A checked value of any width is written as one of 64 bits.
+-- A checked value of any width is written as one of whole numbers.
 -- Assumes nothing.
-use Rattle.std.specs.Prelude.{◌≡◌, Bool, true, false, cond, ◌⊎◌, ℕ, suc, ◌+◌, ◌*◌, ◌-◌, ◌^◌, ◌≤◌, ◌<◌, leb}
-use Rattle.checked.specs.declared.types.Checked64.{Checked64}
-use Rattle.checked.specs.declared.types.Checked64.TheVariants.{Fits, Overflowed}
-use Rattle.checked.specs.declared.types.Option64.{Option64}
-use Rattle.checked.specs.declared.types.Option64.TheVariants as option64
-use Rattle.checked.specs.declared.types.Both.{Both}
-use Rattle.checked.specs.declared.types.Both.TheVariants as both
+use Rattle.std.specs.Prelude.{◌≡◌, Option, Some, None, Bool, true, false, cond, ◌⊎◌, ℕ, suc, ◌+◌, ◌*◌, ◌-◌, ◌^◌, ◌≤◌, ◌<◌, leb}
+use Rattle.checked.specs.declared.types.Checked.{Checked}
+use Rattle.checked.specs.declared.types.Checked.TheVariants.{Fits, Overflowed}
 
 abbrev pub Value : Type 0
-Value = Checked64
+Value = Checked ℕ
+
+-- a checked number of any type, by the whole number that each of its numbers is
+abbrev pub value_by : {N : Type 0} → (N → ℕ) → Checked N → Value
+value_by number (Fits n) = Fits (number n)
+value_by number Overflowed = Overflowed
 
 -- M, the largest number of W bits
 abbrev pub limit_of : ℕ → ℕ
@@ -45,10 +46,10 @@ abbrev pub raised_of : ℕ → Value → Value → Value
 raised_of M a b = checked_of M (least M a ^ least M b)
 
 -- both numbers, where both fit
-abbrev pub both_of : Value → Value → Both
-both_of Overflowed b = both.Overflowed
-both_of (Fits m) Overflowed = both.Overflowed
-both_of (Fits m) (Fits n) = both.Numbers m n
+abbrev pub both_of : Value → Value → Option (ℕ × ℕ)
+both_of Overflowed b = None
+both_of (Fits m) Overflowed = None
+both_of (Fits m) (Fits n) = Some (m, n)
 
 -- both fit, with numbers of which P holds
 abbrev pub BothNumbers : Value → Value → (ℕ → ℕ → Type 0) → Type 0
@@ -77,6 +78,6 @@ abbrev pub Typed : ℕ → {C : Type 0} → (C → Value) → Type 0
 Typed M {C} value = (c : C) × Within M (value c)
 
 -- what may be nothing, as a value
-abbrev pub option : Option64 → Value
-option (option64.Some n) = Fits n
-option option64.None = Overflowed
+abbrev pub option_by : {N : Type 0} → (N → ℕ) → Option N → Value
+option_by number (Some n) = Fits (number n)
+option_by number None = Overflowed

@@ -2,13 +2,13 @@
 // when running.
 ghost use Rattle.std.specs.Prelude.{◌≡◌, ℕ, ◌+◌, ◌*◌, ◌%◌, ◌^◌, ◌≤◌, ◌<◌, max, min};
 ghost use Rattle.whole.specs.Logarithm.{log_of};
-ghost use Rattle.checked.specs.declared.types.Checked64.TheVariants.{Fits, Overflowed};
+ghost use Rattle.checked.specs.declared.types.Checked.TheVariants.{Fits, Overflowed};
 ghost use Rattle.checked.specs.Value.{checked_of, sum_of, product_of, raised_of, both_of};
 ghost use Rattle.checked.specs.Pair.{pair, pair_of};
 ghost use Rattle.checked.specs.Paper.{paper, refused, quotient_of, remainder_of, power_of, logarithm_of, divided_by, left_by, log_by};
 
 use crate::refusal::Refusal;
-use crate::types::{Answer64, Both, Checked64};
+use crate::types::Checked64;
 
 // 2^32: two numbers below it have a product of 64 bits, and it cuts a number of 64 bits into two halves.
 const TWO_TO_32: u64 = 4294967296;
@@ -45,7 +45,7 @@ pub fn checked_mul(limit: u64, a: u64, b: u64) -> Checked64
     if (a | b) < TWO_TO_32 {
         return checked_of(limit, a * b);
     }
-    mul_halves(limit, larger(a, b), smaller(a, b))
+    mul_halves(limit, a.max(b), a.min(b))
 }
 
 // The product of two numbers from their halves of 32 bits. Where the lesser number has a high half, so has the greater,
@@ -67,43 +67,24 @@ fn mul_halves(limit: u64, greater: u64, lesser: u64) -> Checked64
     Checked64::Overflowed
 }
 
-// The larger of two numbers; of this and of the smaller a compiler makes no branch.
-fn larger(a: u64, b: u64) -> u64
-    ensures { result ≡ max a b }
-{
-    if a < b {
-        return b;
-    }
-    a
-}
-
-fn smaller(a: u64, b: u64) -> u64
-    ensures { result ≡ min a b }
-{
-    if a < b {
-        return a;
-    }
-    b
-}
-
 // The quotient of two numbers.
-pub fn checked_div(a: u64, b: u64) -> Answer64
+pub fn checked_div(a: u64, b: u64) -> Result<Checked64, Refusal>
     ensures { paper result ≡ divided_by a b }
 {
     if b == 0 {
-        return Answer64::Refused(Refusal::DivisorZero);
+        return Err(Refusal::DivisorZero);
     }
-    Answer64::Value(Checked64::Fits(a / b))
+    Ok(Checked64::Fits(a / b))
 }
 
 // The remainder of two numbers.
-pub fn checked_rem(a: u64, b: u64) -> Answer64
+pub fn checked_rem(a: u64, b: u64) -> Result<Checked64, Refusal>
     ensures { paper result ≡ left_by a b }
 {
     if b == 0 {
-        return Answer64::Refused(Refusal::DivisorZero);
+        return Err(Refusal::DivisorZero);
     }
-    Answer64::Value(Checked64::Fits(a % b))
+    Ok(Checked64::Fits(a % b))
 }
 
 // The power of two numbers, a binary digit of the exponent at a time. The last square, which nobody needs, is not
@@ -155,13 +136,13 @@ fn with_digit(first: u64, second: u64, left: u64) -> u64
 }
 
 // The logarithm of two numbers.
-pub fn checked_log(base: u64, n: u64) -> Answer64
+pub fn checked_log(base: u64, n: u64) -> Result<Checked64, Refusal>
     ensures { paper result ≡ log_by base n }
 {
     if base < 2 {
-        return Answer64::Refused(Refusal::BaseBelowTwo);
+        return Err(Refusal::BaseBelowTwo);
     }
-    Answer64::Value(Checked64::Fits(floor_log(base, n)))
+    Ok(Checked64::Fits(floor_log(base, n)))
 }
 
 // How often n can be divided by the base, by multiplying up. Each power is compared with the largest factor that the
@@ -174,7 +155,7 @@ fn floor_log(base: u64, n: u64) -> u64
     let mut count: u64 = 0;
     while power <= n {
         count = count + 1;
-        if 18446744073709551615 / base < power {
+        if u64::MAX / base < power {
             return count;
         }
         power = power * base;
@@ -219,8 +200,8 @@ pub fn mul_checked(limit: u64, a: Checked64, b: Checked64) -> Checked64
     ensures { result ≡ product_of limit a b }
 {
     match both(a, b) {
-        Both::Numbers(m, n) => checked_mul(limit, m, n),
-        Both::Overflowed => mul_apart(limit, a, b),
+        Some((m, n)) => checked_mul(limit, m, n),
+        None => mul_apart(limit, a, b),
     }
 }
 
@@ -255,77 +236,43 @@ fn times_overflowed(a: Checked64) -> Checked64
 }
 
 // Both numbers, where both fit.
-pub fn both(a: Checked64, b: Checked64) -> Both
+pub fn both(a: Checked64, b: Checked64) -> Option<(u64, u64)>
     ensures { pair result ≡ pair_of a b }
 {
-    match a {
-        Checked64::Fits(m) => beside(m, b),
-        Checked64::Overflowed => Both::Overflowed,
+    match (a, b) {
+        (Checked64::Fits(m), Checked64::Fits(n)) => Some((m, n)),
+        _ => None,
     }
 }
 
-fn beside(m: u64, b: Checked64) -> Both
-    ensures { result ≡ both_of (Fits m) b }
-{
-    match b {
-        Checked64::Fits(n) => Both::Numbers(m, n),
-        Checked64::Overflowed => Both::Overflowed,
-    }
-}
-
-// The answer where the operand that has to fit is overflowed, whatever the other is: before a divisor 0 or a small base
-// is looked at.
-fn overflowed_operand() -> Answer64
-    ensures { paper result ≡ refused 3 }
-{
-    Answer64::Refused(Refusal::Overflowed)
-}
-
-// The quotient of two checked values; the left has to fit.
-pub fn quotient(a: Checked64, b: Checked64) -> Answer64
+// The quotient of two checked values. The left has to fit, whatever the right is: that is asked before a divisor 0 is
+// looked at. Any number above the limit goes into it 0 times.
+pub fn quotient(a: Checked64, b: Checked64) -> Result<Checked64, Refusal>
     ensures { paper result ≡ quotient_of a b }
 {
-    match a {
-        Checked64::Fits(l) => quotient_by(l, b),
-        Checked64::Overflowed => overflowed_operand(),
+    match (a, b) {
+        (Checked64::Fits(l), Checked64::Fits(r)) => checked_div(l, r),
+        (Checked64::Fits(_), Checked64::Overflowed) => Ok(Checked64::Fits(0)),
+        (Checked64::Overflowed, _) => Err(Refusal::Overflowed),
     }
 }
 
-// A number by any that is above the limit: that goes into it 0 times.
-fn quotient_by(l: u64, b: Checked64) -> Answer64
-    ensures { paper result ≡ quotient_of (Fits l) b }
-{
-    match b {
-        Checked64::Fits(r) => checked_div(l, r),
-        Checked64::Overflowed => Answer64::Value(Checked64::Fits(0)),
-    }
-}
-
-// The remainder of two checked values; the left has to fit.
-pub fn remainder(a: Checked64, b: Checked64) -> Answer64
+// The remainder of two checked values; the left has to fit, and by any number above the limit it is left whole.
+pub fn remainder(a: Checked64, b: Checked64) -> Result<Checked64, Refusal>
     ensures { paper result ≡ remainder_of a b }
 {
-    match a {
-        Checked64::Fits(l) => remainder_by(l, b),
-        Checked64::Overflowed => overflowed_operand(),
-    }
-}
-
-// A number by any that is above the limit is left whole.
-fn remainder_by(l: u64, b: Checked64) -> Answer64
-    ensures { paper result ≡ remainder_of (Fits l) b }
-{
-    match b {
-        Checked64::Fits(r) => checked_rem(l, r),
-        Checked64::Overflowed => Answer64::Value(Checked64::Fits(l)),
+    match (a, b) {
+        (Checked64::Fits(l), Checked64::Fits(r)) => checked_rem(l, r),
+        (Checked64::Fits(l), Checked64::Overflowed) => Ok(Checked64::Fits(l)),
+        (Checked64::Overflowed, _) => Err(Refusal::Overflowed),
     }
 }
 
 // a to the power of b: never refused, and overflowed where it is above the limit.
-pub fn power(limit: u64, a: Checked64, b: Checked64) -> Answer64
+pub fn power(limit: u64, a: Checked64, b: Checked64) -> Result<Checked64, Refusal>
     ensures { paper result ≡ power_of limit a b }
 {
-    Answer64::Value(pow_checked(limit, a, b))
+    Ok(pow_checked(limit, a, b))
 }
 
 // The same as a value.
@@ -376,22 +323,13 @@ fn overflowed_to(limit: u64, r: u64) -> Checked64
     Checked64::Overflowed
 }
 
-// The logarithm of b in the base a; b has to fit.
-pub fn logarithm(a: Checked64, b: Checked64) -> Answer64
+// The logarithm of b in the base a; b has to fit, and in any base above the limit its logarithm is 0.
+pub fn logarithm(a: Checked64, b: Checked64) -> Result<Checked64, Refusal>
     ensures { paper result ≡ logarithm_of a b }
 {
-    match b {
-        Checked64::Fits(n) => logarithm_of(a, n),
-        Checked64::Overflowed => overflowed_operand(),
-    }
-}
-
-// A number has the logarithm 0 in any base that is above the limit.
-fn logarithm_of(a: Checked64, n: u64) -> Answer64
-    ensures { paper result ≡ logarithm_of a (Fits n) }
-{
-    match a {
-        Checked64::Fits(base) => checked_log(base, n),
-        Checked64::Overflowed => Answer64::Value(Checked64::Fits(0)),
+    match (a, b) {
+        (Checked64::Fits(base), Checked64::Fits(n)) => checked_log(base, n),
+        (Checked64::Overflowed, Checked64::Fits(_)) => Ok(Checked64::Fits(0)),
+        (_, Checked64::Overflowed) => Err(Refusal::Overflowed),
     }
 }

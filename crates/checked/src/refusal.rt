@@ -2,7 +2,7 @@
 ghost use Rattle.std.specs.Prelude.{◌≡◌};
 ghost use Rattle.checked.specs.Paper.{number_of};
 
-#[derive(Clone, Copy)]
+#[derive(Clone, Copy, Debug, PartialEq, Eq)]
 pub enum Refusal {
     // divisor 0, both fit
     DivisorZero,
@@ -55,12 +55,37 @@ pub enum Refusal {
     OtherBlockNumber,
 }
 
+// Why a call is refused, and at which place.
+#[derive(Clone, Copy, Debug, PartialEq, Eq)]
+pub struct RefusedAt {
+    pub refusal: Refusal,
+    pub place: u64,
+}
+
 impl Refusal {
+    // The refusal at a place of what was lent.
+    pub fn at(self, place: u64) -> RefusedAt
+        ensures { result ≡ record { refusal = self; place = place } }
+    {
+        RefusedAt {
+            refusal: self,
+            place,
+        }
+    }
+
     // The refusal's number.
     pub fn number(self) -> u32
         ensures { result ≡ number_of self }
     {
-        match self {
+        u32::from(self)
+    }
+}
+
+impl From<Refusal> for u32 {
+    ghost from_gives = { λ refusal n. n ≡ number_of refusal };
+
+    fn from(refusal: Refusal) -> u32 {
+        match refusal {
             Refusal::DivisorZero => 1,
             Refusal::BaseBelowTwo => 2,
             Refusal::Overflowed => 3,

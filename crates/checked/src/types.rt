@@ -1,37 +1,11 @@
-// The checked number of 64 bits and the answers. Two items of one spelling may not stand in one module, so the types have this one.
-use crate::refusal::Refusal;
+// The checked number. Two items of one spelling may not stand in one module, so the type has this one.
 
-// A number of 64 bits, or the note that it was too large for its limit.
-#[derive(Clone, Copy)]
-pub enum Checked64 {
-    Fits(u64),
+// A number, or the note that it was too large for its limit. It is no `Option`: nothing is missing where it doesn't fit,
+// and what a sum or a product makes of it stands in methods of its own.
+#[derive(Clone, Copy, Debug, PartialEq, Eq)]
+pub enum Checked<N> {
+    Fits(N),
     Overflowed,
 }
 
-// A checked number, or why there is none.
-#[derive(Clone, Copy)]
-pub enum Answer64 {
-    Value(Checked64),
-    Refused(Refusal),
-}
-
-// A plain number, or why there is none.
-#[derive(Clone, Copy)]
-pub enum Plain64 {
-    Number(u64),
-    Refused(Refusal),
-}
-
-// A number, or nothing.
-#[derive(Clone, Copy)]
-pub enum Option64 {
-    Some(u64),
-    None,
-}
-
-// Two numbers that both fit, or the note that one of them does not.
-#[derive(Clone, Copy)]
-pub enum Both {
-    Numbers(u64, u64),
-    Overflowed,
-}
+pub type Checked64 = Checked<u64>;

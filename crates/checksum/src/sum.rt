@@ -15,11 +15,9 @@ fn add_row(b: &[u8], at: usize, all: &mut [u16; 64], rows: &mut [u16; 64])
     ensures all_new { all.new ≡ all_more b.now at all.old }
     ensures rows_new { rows.new ≡ rows_more all.old rows.old }
 {
-    let mut j = 0;
-    while j < 64 {
-        rows[j] = rows[j] + all[j];
-        all[j] = all[j] + b[at + j] as u16;
-        j = j + 1;
+    for j in 0..64 {
+        rows[j] += all[j];
+        all[j] += b[at + j] as u16;
     }
 }
 
@@ -29,10 +27,8 @@ fn weigh(all: &[u16; 64], rows: &[u16; 64]) -> u32
     ensures { result ≡ total (column_weight all.now rows.now) 64 }
 {
     let mut sum: u32 = 0;
-    let mut j = 0;
-    while j < 64 {
-        sum = sum + (64 * rows[j] as u32 + (j as u32 + 1) * all[j] as u32);
-        j = j + 1;
+    for j in 0..64 {
+        sum += 64 * rows[j] as u32 + (j as u32 + 1) * all[j] as u32;
     }
     sum
 }
@@ -43,10 +39,8 @@ fn own(b: &[u8]) -> u32
     ensures { check_sum b.now + result ≡ total (weighed b.now) block_length }
 {
     let mut sum: u32 = 0;
-    let mut i = CHECK_AT;
-    while i < BLOCK_LENGTH {
-        sum = sum + (i as u32 + 1) * b[i] as u32;
-        i = i + 1;
+    for i in CHECK_AT..BLOCK_LENGTH {
+        sum += (i as u32 + 1) * b[i] as u32;
     }
     sum
 }
@@ -60,9 +54,7 @@ pub fn check_sum(b: &[u8]) -> u32
     }
     let mut all = [0u16; 64];
     let mut rows = [0u16; 64];
-    let mut row = 8;
-    while 0 < row {
-        row = row - 1;
+    for row in (0..8).rev() {
         add_row(b, 64 * row, &mut all, &mut rows);
     }
     weigh(&all, &rows) - own(b)

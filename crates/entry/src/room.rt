@@ -7,6 +7,5 @@ use checked::refusal::Refusal;
 pub fn too_short() -> u32
     ensures { result ≡ 19 }
 {
-    let refusal = Refusal::ListTooShort;
-    refusal.number()
+    Refusal::ListTooShort.number()
 }

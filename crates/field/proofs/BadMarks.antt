@@ -1,9 +1,9 @@
 -- The earliest bad mark: places passed one by one, and places looked at all together.
 -- Assumes nothing.
-use mathlib.Core.Path.{◌≡◌, refl, ap, ap₂, sym, ◌∙◌}
+use mathlib.Core.Path.{◌≡◌, refl, ap, ap₂, sym, ◌∙◌, subst}
 use mathlib.Core.Bool.{Bool, true, false, cond, ◌&&◌}
 use mathlib.Core.List.{List}
-use Prim.Native.Nat.{ℕ, ◌+◌, ◌≤◌, ◌<◌, max}
+use Prim.Native.Nat.{ℕ, ◌+◌, ◌≤◌, ◌<◌, max, min}
 use native.Mathlib.Decide.{ℕ_discrete, dec_lt}
 use native.Mathlib.Numerals.{add-one}
 use native.Mathlib.Omega.{arith}
@@ -11,6 +11,10 @@ use borrow.Author.Tests.{le-leb, lt-leb, eq-eqb, ne_eqb}
 use lib.Bits.{bit_or}
 use lib.Dec.{eqb, leb}
 use lib.ListN.{length, get_or, get_or-eq_default}
+use Rattle.std.specs.Prelude.{Option, Some, None, MatchOption}
+use Rattle.std.specs.Option.{unwrap_or}
+use Rattle.std.specs.List.{AllWithin, HoldsAt, zip}
+use Rattle.std.proofs.lemmas.Slice.Zip.{length-zip, get_or-zip}
 use Rattle.places.specs.Places.{every}
 use Rattle.places.specs.Faults.{first_fault, NoFaultBefore}
 use Rattle.places.proofs.Every.{every-at, every-more, larger-within}
@@ -74,15 +78,13 @@ together-turn numbers marks i most any e p q =
     ∙ sym (every-more (well_marked_at numbers marks) i)
     ∙ ap (every (well_marked_at numbers marks)) (sym (add-one i))
 
--- and its end, by the last look at `most`
-pub together-end
-    : (numbers marks : List ℕ) (i most any : ℕ) → (leb most 1 && eqb any 0) ≡ every (well_marked_at numbers marks) i →
-    i ≡ length numbers → (t : Bool) → leb most 1 ≡ t →
-    (t && eqb any 0) ≡ every (well_marked_at numbers marks) (length numbers)
-together-end numbers marks i most any e l t m =
-    sym (ap (λ t. t && eqb any 0) m) ∙ e ∙ ap (every (well_marked_at numbers marks)) l
-
 -- ---- which place is the earliest bad one
+
+abbrev Well : ℕ × ℕ → Type 0
+Well p = well_marked p.1 p.0 ≡ true
+
+abbrev Badly : ℕ × ℕ → Type 0
+Badly p = well_marked p.1 p.0 ≡ false
 
 module _ (numbers marks : List ℕ) where
   -- none, where all are well marked
@@ -138,3 +140,31 @@ module _ (numbers marks : List ℕ) where
   bad-here-is i h before bad =
       let f = badly-marked (get_or marks i 0) (get_or numbers i 0) (sym bad) in
       sym (first-fault-is (mark_fault_at numbers marks) (length numbers) i h (λ z. omega arith) before)
+
+  -- a place that has both, looked at as a pair
+  passed
+      : (j : ℕ) {n : ℕ} → AllWithin Well (zip numbers marks) 0 n → j < n → j < length (zip numbers marks) →
+      mark_fault_at numbers marks j ≡ 0
+  passed j well h l =
+      let n = length-zip numbers marks in
+      well-marked-faultless (get_or marks j 0) (get_or numbers j 0)
+      (subst Well (get_or-zip numbers marks j (0, 0) (omega arith) (omega arith)) (well j (0, 0) (omega arith) h))
+
+  -- where the places that have both are looked through: the first that isn't well marked, or none
+  pub walked-is
+      : (r : Option ℕ) →
+      MatchOption r (AllWithin Well (zip numbers marks) 0 (length (zip numbers marks)))
+      (λ i. (i < length (zip numbers marks)) × HoldsAt Badly (zip numbers marks) i × AllWithin Well (zip numbers marks) 0 i) →
+      unwrap_or r (length numbers) ≡ first_fault (mark_fault_at numbers marks) (length numbers)
+  walked-is None all =
+      let n = length-zip numbers marks in
+      let before : NoFaultBefore (mark_fault_at numbers marks) (min (length numbers) (length marks)) =
+      λ j h. passed j all (omega arith) (omega arith) in
+      elim (dec_lt (length marks) (length numbers)) [
+        | yes h ↦ past-marks-is (min (length numbers) (length marks)) before (omega arith)
+        | no h ↦ all-passed-is (min (length numbers) (length marks)) before (omega arith)
+      ]
+  walked-is (Some i) (l, here, before) =
+      let n = length-zip numbers marks in
+      bad-here-is i (omega arith) (λ j h. passed j before h (omega arith))
+      (sym (subst Badly (get_or-zip numbers marks i (0, 0) (omega arith) (omega arith)) (here (0, 0))))

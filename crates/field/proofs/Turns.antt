@@ -1,37 +1,12 @@
--- A turn of the loop that looks for the first marked place, and of the one over the numbers; and what the latter has found at its end.
+-- A turn of the loop over the numbers, and what it has found at its end.
 -- Assumes nothing.
-use mathlib.Core.Path.{◌≡◌, ap, ap₂, sym, ◌∙◌}
-use mathlib.Core.Bool.{true, false, ◌&&◌, false≢true}
+use mathlib.Core.Path.{◌≡◌, ap, sym, ◌∙◌}
 use mathlib.Core.List.{List}
 use Prim.Native.Nat.{ℕ, ◌+◌, ◌-◌, ◌≤◌, ◌<◌, min, max}
-use native.Mathlib.Decide.{dec_lt}
 use native.Mathlib.Numerals.{add-one}
-use native.Mathlib.Omega.{arith}
-use borrow.Author.Tests.{eq-eqb}
 use lib.ListN.{length, get_or, drop, drop_of_length-le}
-use Rattle.little.proofs.Zeros.{zeros-more}
 use Rattle.field.specs.Range.{kept_from, kept, least, greatest, packing_width, ranged, range_of}
-use Rattle.field.specs.Field.{unmarked}
 use Rattle.field.proofs.Ranges.{kept-at, kept-end}
-
--- ---- the marks
-
-module _ (marks : List ℕ) (i : ℕ) where
-  pub unmarked-turn : unmarked marks i ≡ true → get_or marks i 0 ≡ 0 → unmarked marks (i + 1) ≡ true
-  unmarked-turn e z =
-      ap (unmarked marks) (add-one i)
-      ∙ zeros-more 0 i marks (omega arith)
-      ∙ ap₂ ◌&&◌ e (eq-eqb (get_or marks i 0) 0 z)
-
-  -- where the places passed are unmarked, a marked one is still ahead
-  pub marked-ahead : unmarked marks (length marks) ≡ false → unmarked marks i ≡ true → i ≤ length marks → i < length marks
-  marked-ahead n e h =
-      elim (dec_lt i (length marks)) [
-        | yes l ↦ l
-        | no l ↦ let p : length marks ≡ i = omega arith in absurd (false≢true (sym n ∙ ap (unmarked marks) p ∙ e))
-      ]
-
--- ---- the numbers
 
 pub kept-turn
     : (keep : ℕ → ℕ → ℕ) (numbers : List ℕ) (i m : ℕ) → i < length numbers → kept_from keep m (drop i numbers) ≡ kept keep numbers →

@@ -1,13 +1,9 @@
 // What a scan answers.
-use checked::refusal::Refusal;
 
-// A field's range with its packing width; or why there is none, and where.
-#[derive(Clone, Copy)]
-pub enum Scan {
-    Ranged {
-        least: u64,
-        greatest: u64,
-        width: u64,
-    },
-    Refused(Refusal, u64),
+// A field's least and greatest number, and the packing width of what lies between them.
+#[derive(Clone, Copy, Debug, PartialEq, Eq)]
+pub struct Range {
+    pub least: u64,
+    pub greatest: u64,
+    pub width: u64,
 }

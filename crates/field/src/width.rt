@@ -6,5 +6,5 @@ ghost use Rattle.field.specs.Range.{packing_width};
 pub fn packing_width(range: u64) -> u64
     ensures { result ≡ packing_width range }
 {
-    (64 - u64::leading_zeros(range)) as u64
+    u64::from(u64::BITS - range.leading_zeros())
 }

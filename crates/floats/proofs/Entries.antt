@@ -10,18 +10,16 @@ use borrow.Author.Tests.{eq-eqb, ne_eqb, lt-ltb, le-ltb, eqb-false}
 use lib.ListN.{length, length-map, set}
 use lib.Seq.{sets}
 use lib.Ieee.{Float}
-use Rattle.checked.specs.declared.refusal.Refusal.{Refusal}
+use Rattle.std.specs.Prelude.{Result, Ok, Err}
+use Rattle.checked.specs.declared.refusal.RefusedAt.{RefusedAt}
 use Rattle.checked.specs.Paper.{number_of}
 use Rattle.checked.proofs.Unique.{not-zero}
 use Rattle.little.specs.Bytes.{put}
 use Rattle.little.proofs.Stored.{put-stored}
 use Rattle.reading.specs.Order.{bits_of}
 use Rattle.level.specs.declared.types.Extent.{Extent}
-use Rattle.level.specs.declared.types.LevelScan.{LevelScan}
-use Rattle.level.specs.declared.types.LevelScan.TheVariants.{Ranged, Refused}
 use Rattle.level.specs.Scan.{Scanned, refused, scan_of}
 use Rattle.level.specs.Answers.{scanned}
-use Rattle.turn.specs.declared.types.Turn.{Turn}
 use Rattle.turn.specs.Turning.{turning_of, numbers_after, marks_after}
 use Rattle.turn.specs.Answers.{turned}
 use Rattle.entry.specs.Entry.{Told, answer_code, answer_list}
@@ -97,23 +95,23 @@ module _ (level : List Float) (grounds : List ℕ) (extent : List Float) (lent :
         roomy-scan-gives (refused 19 0) (sym (no-room-for-extent (scan_of level grounds) extent h)) e refl
         (sym (extent-stays (refused 19 0) extent (λ z. omega arith)))
 
-    module _ (wide : 2 ≤ length extent) {answer : LevelScan} (ensured : scanned answer ≡ scan_of level grounds) where
-      scanned-is : {x : LevelScan} → answer ≡ x → scanned x ≡ scan_for extent (scan_of level grounds)
+    module _ (wide : 2 ≤ length extent) {answer : Result Extent RefusedAt} (ensured : scanned answer ≡ scan_of level grounds) where
+      scanned-is : {x : Result Extent RefusedAt} → answer ≡ x → scanned x ≡ scan_for extent (scan_of level grounds)
       scanned-is is = ap scanned (sym is) ∙ ensured ∙ sym (room-for-extent (scan_of level grounds) extent wide)
 
       pub ranged-gives
-          : {found : Extent} → answer ≡ Ranged found →
+          : {found : Extent} → answer ≡ Ok found →
           Gives 0 (set lent 0 0) (bits_in (set (set extent 0 found.least) 1 found.greatest))
       ranged-gives {found} is =
-          roomy-scan-gives (scanned (Ranged found)) (scanned-is is) refl refl
-          (both-stored extent found.least found.greatest wide ∙ sym (extent-given (scanned (Ranged found)) extent refl))
+          roomy-scan-gives (scanned (Ok found)) (scanned-is is) refl refl
+          (both-stored extent found.least found.greatest wide ∙ sym (extent-given (scanned (Ok found)) extent refl))
 
       pub refused-gives
-          : {refusal : Refusal} {place r : ℕ} → answer ≡ Refused refusal place → r ≡ number_of refusal →
-          Gives r (set lent 0 place) (bits_in extent)
-      refused-gives {refusal} {place} is e =
-          roomy-scan-gives (scanned (Refused refusal place)) (scanned-is is) e refl
-          (sym (extent-stays (scanned (Refused refusal place)) extent (eqb-false (number_of refusal) 0 (not-zero refusal))))
+          : {e : RefusedAt} {r : ℕ} → answer ≡ Err e → r ≡ number_of e.refusal →
+          Gives r (set lent 0 e.place) (bits_in extent)
+      refused-gives {e} is n =
+          roomy-scan-gives (scanned (Err e)) (scanned-is is) n refl
+          (sym (extent-stays (scanned (Err e)) extent (eqb-false (number_of e.refusal) 0 (not-zero e.refusal))))
 
 -- ---- a level turned into a field
 
@@ -136,7 +134,7 @@ module _ (level : List Float) (grounds numbers marks lent : List ℕ) where
 
   -- in an arm of the `match` on the answer, which is x there
   pub turn-gives
-      : {x answer : Turn} {r : ℕ} {now ns ms : List ℕ} → 1 ≤ length lent → r ≡ (turned x).code →
+      : {x answer : Result (Unit {0}) RefusedAt} {r : ℕ} {now ns ms : List ℕ} → 1 ≤ length lent → r ≡ (turned x).code →
       now ≡ sets lent 0 ((turned x).place ∷ []) → answer ≡ x → turned answer ≡ turning_of level grounds numbers marks →
       ns ≡ numbers_after level grounds numbers marks → ms ≡ marks_after level grounds numbers marks → Turns r now ns ms
   turn-gives {x} h e s is ensured filled unmarked =

@@ -7,9 +7,7 @@ ghost use Rattle.floats.specs.Levels.{bits_in, of_level_scan, scan_for, extent_b
 
 use entry::room::too_short;
 use level::scan::scan;
-use level::types::LevelScan;
 use turn::turn::turn;
-use turn::types::Turn;
 
 // The refusal's place, or 0.
 const PLACE_LENGTH: usize = 1;
@@ -42,15 +40,15 @@ pub fn razovinto_level_scan(
         return too_short();
     }
     match scan(level, grounds) {
-        LevelScan::Ranged(found) => {
+        Ok(found) => {
             extent[0] = found.least;
             extent[1] = found.greatest;
             answer[0] = 0;
             0
         }
-        LevelScan::Refused(refusal, place) => {
-            answer[0] = place;
-            refusal.number()
+        Err(refused) => {
+            answer[0] = refused.place;
+            refused.refusal.number()
         }
     }
 }
@@ -85,13 +83,13 @@ pub fn razovinto_level_to_field(
         return too_short();
     }
     match turn(level, grounds, numbers, marks) {
-        Turn::Field => {
+        Ok(()) => {
             answer[0] = 0;
             0
         }
-        Turn::Refused(refusal, place) => {
-            answer[0] = place;
-            refusal.number()
+        Err(refused) => {
+            answer[0] = refused.place;
+            refused.refusal.number()
         }
     }
 }

@@ -11,10 +11,12 @@ use Rattle.layout.specs.Layout.{edition_of}
 use Rattle.layout.specs.Reading.{read_fault, reading_of, numbers_after, marks_after}
 use Rattle.layout.proofs.Promises.{given-where-accepted, refused-at-0}
 use Rattle.layout.specs.Editions.{one}
-use Rattle.block.specs.declared.types.Read.{Read}
+use Rattle.std.specs.Prelude.{Result}
+use Rattle.checked.specs.declared.refusal.Refusal.{Refusal}
+use Rattle.checked.specs.declared.refusal.RefusedAt.{RefusedAt}
+use Rattle.block.specs.declared.types.Head.{Head}
 use Rattle.block.specs.Answers.{reading}
 use Rattle.written.specs.Writing.{writing_of, run_after}
-use Rattle.write.specs.declared.types.Write.{Write}
 use Rattle.write.specs.Answers.{writing}
 use Rattle.entry.specs.Entry.{Told, answer_code, answer_list}
 use Rattle.entry.proofs.Entries.{short-gives, short-beside, roomy-beside, arm}
@@ -39,7 +41,7 @@ module _ (b numbers marks lent : List ℕ) where
 
   -- in an arm of the `match` on its answer, which is x there
   pub read-gives
-      : {x answer : Read} {r : ℕ} {now ns ms : List ℕ} → 3 ≤ length lent → r ≡ (of_reading (reading x)).code →
+      : {x answer : Result Head Refusal} {r : ℕ} {now ns ms : List ℕ} → 3 ≤ length lent → r ≡ (of_reading (reading x)).code →
       now ≡ sets lent 0 (of_reading (reading x)).words → answer ≡ x → reading answer ≡ reading_of b numbers marks →
       ns ≡ numbers_after b numbers marks → ms ≡ marks_after b numbers marks →
       (r ≡ answer_code told lent)
@@ -67,7 +69,7 @@ module _ (first : ℕ) (numbers marks run lent : List ℕ) where
 
   -- in an arm of the `match` on its answer, which is x there
   pub write-gives
-      : {x answer : Write} {r : ℕ} {now after : List ℕ} → 2 ≤ length lent → r ≡ (of_writing (writing x)).code →
+      : {x answer : Result ℕ RefusedAt} {r : ℕ} {now after : List ℕ} → 2 ≤ length lent → r ≡ (of_writing (writing x)).code →
       now ≡ sets lent 0 (of_writing (writing x)).words → answer ≡ x →
       writing answer ≡ writing_of one first numbers marks run → after ≡ run_after one first numbers marks run →
       (r ≡ answer_code told-writing lent)

@@ -11,7 +11,7 @@ use Rattle.steps.specs.Steps.{after, begun}
 use Rattle.recipe.specs.Run.{mark_of, places, run_of}
 use Rattle.whole.specs.DivMod.{rust_div, ◌/ℤ◌}
 use Rattle.checked.specs.Value.{checked_of}
-use Rattle.checked.specs.declared.types.Checked64.TheVariants.{Fits, Overflowed}
+use Rattle.checked.specs.declared.types.Checked.TheVariants.{Fits, Overflowed}
 use Rattle.signed.specs.Signed.{quotient_of}
 use Rattle.entry.specs.Entry.{answer_code, answer_list}
 use Rattle.hosts.specs.Entry.{signed_code, signed_list}

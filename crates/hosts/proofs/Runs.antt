@@ -8,11 +8,9 @@ use lib.ListN.{length, get_or, take, drop, length-drop, take-append-drop}
 use lib.Seq.{sets, take_all, drop-drop, length-take-le}
 use Rattle.little.specs.Bytes.{Bytes, part, little, bytes_of}
 use Rattle.little.proofs.Little.{bytes-little, part-bytes}
-use Rattle.places.specs.Places.{table}
 use Rattle.recipe.specs.Run.{Shown, run_of}
 use Rattle.recipe.proofs.Promises.{places-shown, marks-shown}
 use Rattle.hosts.specs.Answers.{head_of, phase_words, mark_words, of_run}
-use Rattle.places.proofs.Stores.{listed}
 
 -- with 32 places there are 50 numbers
 pub run-words : (s : Shown) → length s.numbers ≡ 32 → length (of_run s).words ≡ 50
@@ -23,13 +21,12 @@ run-of-words W ks ns k = run-words (run_of W ks ns k) (places-shown W ks ns k).1
 
 -- the answer, the phase, the marks and the numbers
 pub run-stored
-    : (s : Shown) (old answered phased marked all : List ℕ) → length s.numbers ≡ 32 →
+    : (s : Shown) (old answered phased marked all : List ℕ) →
     answered ≡ sets old 0 (head_of s.answer s.steps s.done) →
     phased ≡ sets answered 5 (phase_words s.phase) → marked ≡ sets phased 14 (mark_words s.marks) →
-    all ≡ sets marked 18 (table (λ i. get_or s.numbers i 0) 32) → all ≡ sets old 0 (of_run s).words
-run-stored s old answered phased marked all n a p m l =
+    all ≡ sets marked 18 s.numbers → all ≡ sets old 0 (of_run s).words
+run-stored s old answered phased marked all a p m l =
     l
-    ∙ ap (sets marked 18) (listed s.numbers 32 n)
     ∙ ap (λ x. sets x 18 s.numbers) (m ∙ ap (λ x. sets x 14 (mark_words s.marks)) p)
     ∙ ap (λ x. sets (sets (sets x 5 (phase_words s.phase)) 14 (mark_words s.marks)) 18 s.numbers) a
 

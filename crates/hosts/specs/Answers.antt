@@ -10,7 +10,6 @@ use Rattle.layout.specs.Editions.{one}
 use Rattle.layout.specs.Reading.{Reading, reading_of, numbers_after, marks_after}
 use Rattle.written.specs.Writing.{Writing, writing_of, run_after}
 use Rattle.search.specs.Search.{Searched}
-use Rattle.hosts.specs.declared.types.PhaseNumbers.{PhaseNumbers}
 use Rattle.entry.specs.Entry.{Told, answer_code, answer_list, besides}
 
 abbrev pub of_shape : Verdict → Told
@@ -69,13 +68,6 @@ phase_words phase =
     get_or phase 0 0
     ∷ of_phase 1 phase 1 ∷ of_phase 1 phase 2 ∷ of_phase 1 phase 3 ∷ of_phase 1 phase 4 ∷ of_phase 1 phase 5
     ∷ of_phase 2 phase 1 ∷ of_phase 2 phase 2 ∷ of_phase 2 phase 3 ∷ []
-
--- the code's numbers of a phase, in this order
-abbrev pub phase_list : PhaseNumbers → List ℕ
-phase_list n =
-    n.phase
-    ∷ n.firstmark ∷ n.first ∷ n.secondmark ∷ n.second ∷ n.exponent
-    ∷ n.base ∷ n.left ∷ n.count ∷ []
 
 -- the 32 marks in four numbers of eight bytes, the lowest first: so they lie in memory as 32 bytes
 abbrev pub mark_words : List ℕ → List ℕ

@@ -8,14 +8,11 @@ ghost use Rattle.written.specs.Writing.{writing_of};
 ghost use Rattle.entry.specs.Entry.{answer_code, answer_list};
 ghost use Rattle.hosts.specs.Answers.{of_reading, of_writing, of_search, numbers_beside, marks_beside, run_beside};
 
-use crate::answer::{put_four, put_three, put_two};
+use crate::answer::put;
 use block::read::read;
 use block::sound::sound;
-use block::types::{Read, Sound};
 use entry::room::too_short;
 use search::search::search;
-use search::types::Found;
-use write::types::Write;
 use write::write::write;
 
 // The refusal's place, which is 0, with the block's number and count.
@@ -32,8 +29,8 @@ pub fn razovinto_sound(block: &[u8]) -> u32
     ensures { result ≡ (sound_of block.now).code }
 {
     match sound(block) {
-        Sound::Sound => 0,
-        Sound::Refused(refusal) => refusal.number(),
+        Ok(()) => 0,
+        Err(refusal) => refusal.number(),
     }
 }
 
@@ -60,12 +57,12 @@ pub fn razovinto_read(
         return too_short();
     }
     match read(block, numbers, marks) {
-        Read::Values { number, count } => {
-            put_three(answer, 0, number as u64, count as u64);
+        Ok(head) => {
+            put(answer, [0, u64::from(head.number), head.count as u64]);
             0
         }
-        Read::Refused(refusal) => {
-            put_three(answer, 0, 0, 0);
+        Err(refusal) => {
+            put(answer, [0, 0, 0]);
             refusal.number()
         }
     }
@@ -93,13 +90,13 @@ pub fn razovinto_write(
         return too_short();
     }
     match write(numbers, marks, first, run) {
-        Write::Length(length) => {
-            put_two(answer, 0, length);
+        Ok(length) => {
+            put(answer, [0, length]);
             0
         }
-        Write::Refused(refusal, place) => {
-            put_two(answer, place, 0);
-            refusal.number()
+        Err(refused) => {
+            put(answer, [refused.place, 0]);
+            refused.refusal.number()
         }
     }
 }
@@ -113,17 +110,17 @@ pub fn razovinto_search(run: &[u8], answer: &mut [u64]) -> u32
         return too_short();
     }
     match search(run) {
-        Found::Overflowed { position, place } => {
-            put_four(answer, 0, 1, position, place);
+        Ok(Some(spot)) => {
+            put(answer, [0, 1, spot.position, spot.place]);
             0
         }
-        Found::None => {
-            put_four(answer, 0, 0, 0, 0);
+        Ok(None) => {
+            put(answer, [0, 0, 0, 0]);
             0
         }
-        Found::Refused(refusal, position) => {
-            put_four(answer, position, 0, 0, 0);
-            refusal.number()
+        Err(refused) => {
+            put(answer, [refused.place, 0, 0, 0]);
+            refused.refusal.number()
         }
     }
 }

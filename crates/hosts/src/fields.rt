@@ -4,10 +4,9 @@ ghost use Rattle.field.specs.Range.{scan_of};
 ghost use Rattle.entry.specs.Entry.{answer_code, answer_list};
 ghost use Rattle.hosts.specs.Answers.{of_scan};
 
-use crate::answer::put_four;
+use crate::answer::put;
 use entry::room::too_short;
 use field::scan::scan;
-use field::types::Scan;
 
 // The refusal's place, or 0 with least, greatest and packing width.
 const RANGE_LENGTH: usize = 4;
@@ -22,17 +21,13 @@ pub fn razovinto_scan(numbers: &[u64], marks: &[u8], answer: &mut [u64]) -> u32
         return too_short();
     }
     match scan(numbers, marks) {
-        Scan::Ranged {
-            least,
-            greatest,
-            width,
-        } => {
-            put_four(answer, 0, least, greatest, width);
+        Ok(range) => {
+            put(answer, [0, range.least, range.greatest, range.width]);
             0
         }
-        Scan::Refused(refusal, place) => {
-            put_four(answer, place, 0, 0, 0);
-            refusal.number()
+        Err(refused) => {
+            put(answer, [refused.place, 0, 0, 0]);
+            refused.refusal.number()
         }
     }
 }

@@ -1,20 +1,19 @@
 // The run of a recipe, and its shape alone.
 ghost use Rattle.std.specs.Prelude.{◌≡◌, ◌≤◌, length};
 ghost use Rattle.std.proofs.lemmas.List.Edits.{sets};
-ghost use Rattle.checked.specs.Paper.{given};
 ghost use Rattle.shape.specs.Shape.{shape_of};
 ghost use Rattle.recipe.specs.Run.{answer_of, paper, run_of};
 ghost use Rattle.entry.specs.Entry.{answer_code, answer_list};
 ghost use Rattle.hosts.specs.Answers.{of_shape, head_of, of_run};
 
-use crate::answer::put_two;
-use crate::state::{in_numbers, put_answer, put_marks, put_numbers, put_phase};
+use crate::answer::{put, put_at};
+use crate::state::{mark_of, mark_words, number_in, phase_words};
+use checked::refusal::RefusedAt;
 use checked::types::Checked64;
 use entry::room::too_short;
 use recipe::run::run;
-use recipe::types::{Answer, Run};
+use recipe::types::Run;
 use shape::shape::shape;
-use shape::types::Shape;
 
 // The refusal's place, or 0 with the largest number of the width.
 const SHAPE_LENGTH: usize = 2;
@@ -33,42 +32,31 @@ pub fn razovinto_shape(width: u64, kinds: &[u8], numbers: &[u64], answer: &mut [
         return too_short();
     }
     match shape(width, kinds, numbers) {
-        Shape::WellFormed(limit) => {
-            put_two(answer, 0, limit);
+        Ok(limit) => {
+            put(answer, [0, limit]);
             0
         }
-        Shape::Refused(refusal, place) => {
-            put_two(answer, place, 0);
-            refusal.number()
+        Err(refused) => {
+            put(answer, [refused.place, 0]);
+            refused.refusal.number()
         }
     }
 }
 
-// A value, with no place to tell.
-fn put_value(lent: &mut [u64], value: Checked64, steps: u64, done: u64)
-    requires { 50 ≤ length lent.old }
-    ensures { lent.new ≡ sets lent.old 0 (head_of (given value) steps done) }
-{
-    match value {
-        Checked64::Fits(n) => put_answer(lent, 0, 0, n, steps, done),
-        Checked64::Overflowed => put_answer(lent, 0, 1, 0, steps, done),
-    }
-}
-
-// The answer with the steps and the items done.
-fn put_outcome(lent: &mut [u64], answer: Answer, steps: u64, done: u64) -> u32
+// The answer with the steps and the items done. A value has no place to tell.
+fn put_outcome(lent: &mut [u64], answer: Result<Checked64, RefusedAt>, steps: u64, done: u64) -> u32
     requires { 50 ≤ length lent.old }
     ensures value { result ≡ (answer_of answer).code }
     ensures lent_new { lent.new ≡ sets lent.old 0 (head_of (answer_of answer) steps done) }
 {
     match answer {
-        Answer::Value(value) => {
-            put_value(lent, value, steps, done);
+        Ok(value) => {
+            put(lent, [0, mark_of(value), number_in(value), steps, done]);
             0
         }
-        Answer::Refused(refusal, place) => {
-            put_answer(lent, place, 0, 0, steps, done);
-            refusal.number()
+        Err(refused) => {
+            put(lent, [refused.place, 0, 0, steps, done]);
+            refused.refusal.number()
         }
     }
 }
@@ -79,14 +67,10 @@ fn put_run(lent: &mut [u64], shown: Run) -> u32
     ensures value { result ≡ (of_run (paper shown)).code }
     ensures lent_new { lent.new ≡ sets lent.old 0 (of_run (paper shown)).words }
 {
-    let answer = shown.answer;
-    let phase = shown.phase;
-    let marks = shown.marks;
-    let numbers = shown.numbers;
-    let code = put_outcome(lent, answer, shown.steps, shown.done);
-    put_phase(lent, in_numbers(phase));
-    put_marks(lent, &marks);
-    put_numbers(lent, &numbers);
+    let code = put_outcome(lent, shown.answer, shown.steps, shown.done);
+    put_at(lent, 5, &phase_words(shown.phase));
+    put_at(lent, 14, &mark_words(&shown.marks));
+    put_at(lent, 18, &shown.numbers);
     code
 }
 

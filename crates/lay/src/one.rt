@@ -28,13 +28,7 @@ pub fn lay(number: u32, numbers: &[u64], marks: &[u8], block: &mut [u8])
     ensures { block.new ≡ laid_over one number numbers.now marks.now block.old }
 {
     let count = numbers.len();
-    if block.len() != BLOCK_LENGTH {
-        return;
-    }
-    if one::MOST < count {
-        return;
-    }
-    if marks.len() != count {
+    if block.len() != BLOCK_LENGTH || one::MOST < count || marks.len() != count {
         return;
     }
     put_word(block, 0, number);

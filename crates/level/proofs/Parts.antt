@@ -3,7 +3,7 @@
 -- Assumes nothing.
 use mathlib.Core.Path.{◌≡◌, refl, ap, sym, ◌∙◌, subst}
 use mathlib.Core.Logic.{inl, inr}
-use mathlib.Core.Bool.{Bool, true, false, not, cond, false≢true}
+use mathlib.Core.Bool.{Bool, true, false, cond, false≢true}
 use mathlib.Core.List.{List}
 use Prim.Native.Nat.{ℕ, ◌+◌, ◌-◌, ◌≤◌, ◌<◌}
 use native.Mathlib.Decide.{ℕ_discrete, dec_lt}
@@ -11,7 +11,7 @@ use native.Mathlib.Omega.{arith}
 use borrow.Author.Tests.{eq-eqb, ne_eqb, eqb-true, eqb-false}
 use lib.Dec.{T, eqb}
 use lib.ListN.{length, get_or}
-use lib.Ieee.{Float, nan, inf, fin, binary32, fits, is_nan, eq, ne, of_bits, to_bits, nan_bits}
+use lib.Ieee.{Float, nan, inf, fin, binary32, fits, is_nan, eq, of_bits, to_bits, nan_bits}
 use Rattle.places.proofs.First.{first-within, first-holds, none-before}
 use Rattle.reading.specs.Reading.{usable_at}
 use Rattle.reading.specs.Order.{bits_of, rank_of, rank, bits_of_rank}
@@ -77,11 +77,11 @@ module _ (level : List Float) (from to r : ℕ) (among : place_of_rank level fro
         ]
 
 -- the machine's test for a zero; a NaN isn't one either way
-pub nonzero-told : (x : Float) → T (fits binary32 x) → ne x (of_bits binary32 0) ≡ not (eqb (rank x) 2147483648)
-unfolding ne eq is_nan to_bits rank_of
-nonzero-told nan h = refl
-nonzero-told (inf s) h = ap not (zero-is (inf s) h refl)
-nonzero-told (fin s m e) h = ap not (zero-is (fin s m e) h refl)
+pub zero-told : (x : Float) → T (fits binary32 x) → eq x (of_bits binary32 0) ≡ eqb (rank x) 2147483648
+unfolding eq is_nan to_bits rank_of
+zero-told nan h = refl
+zero-told (inf s) h = zero-is (inf s) h refl
+zero-told (fin s m e) h = zero-is (fin s m e) h refl
 
 -- ---- what is kept
 

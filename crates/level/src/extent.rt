@@ -27,11 +27,12 @@ fn first_zero(level: &[f32], from: usize, to: usize) -> f32
     requires to_bound { place_of_rank level.now from to 2147483648 < to }
     ensures { result ≡ get_or level.now (place_of_rank level.now from to 2147483648) nan }
 {
-    let mut place = from;
-    while level[place] != 0.0 {
-        place = place + 1;
+    for place in from..to {
+        if level[place] == 0.0 {
+            return level[place];
+        }
     }
-    level[place]
+    unreachable!()
 }
 
 // What is kept of the float kept so far and of the readings from place `from` to before place `to`, by the rank that was

@@ -1,5 +1,5 @@
 // Readings as ranks: whole numbers in the order of the readings, which a compiler compares several at a time.
-ghost use Rattle.std.specs.Prelude.{◌≡◌, false, ◌≤◌, min, max, length};
+ghost use Rattle.std.specs.Prelude.{◌≡◌, false, ◌≤◌, length};
 ghost use Rattle.std.specs.Float.Ieee.{is_nan};
 ghost use Rattle.reading.specs.Order.{bits_of, rank};
 ghost use Rattle.level.specs.Extent.{lowest, highest};
@@ -21,29 +21,12 @@ pub(crate) fn rank(x: f32) -> u32
     requires { is_nan x ≡ false }
     ensures { result ≡ rank x }
 {
-    let bits = f32::to_bits(x);
+    let bits = x.to_bits();
     if 0x8000_0000 <= bits {
-        return (0xffff_ffff - bits) + 1;
+        (0xffff_ffff - bits) + 1
+    } else {
+        0x8000_0000 + bits
     }
-    0x8000_0000 + bits
-}
-
-fn lesser(a: u32, b: u32) -> u32
-    ensures { result ≡ min a b }
-{
-    if b < a {
-        return b;
-    }
-    a
-}
-
-fn larger(a: u32, b: u32) -> u32
-    ensures { result ≡ max a b }
-{
-    if a < b {
-        return b;
-    }
-    a
 }
 
 // The extent's ranks with those of the readings from place `from` to before place `to`. There is no early exit.
@@ -59,15 +42,13 @@ pub(crate) fn ranked(level: &[f32], grounds: &[u8], from: usize, to: usize, exte
 {
     let mut least = rank(extent.least);
     let mut greatest = rank(extent.greatest);
-    let mut i = from;
-    while i < to {
+    for i in from..to {
         let rank = match seen(level[i], grounds[i]) {
             Reading::Air(x) | Reading::Ground(x) => rank(x),
             Reading::Unusable => 0,
         };
-        least = lesser(least, rank);
-        greatest = larger(greatest, rank);
-        i = i + 1;
+        least = least.min(rank);
+        greatest = greatest.max(rank);
     }
     Ranks { least, greatest }
 }

@@ -7,18 +7,12 @@ pub fn word(line: &mut [u8], at: usize, text: &[u8]) -> usize
     ensures value { result ≡ after at text.now line.old }
     ensures line_new { line.new ≡ written at text.now line.old }
 {
-    if line.len() < at {
+    if line.len() < at || line.len() - at < text.len() {
         return at;
     }
-    if line.len() - at < text.len() {
-        return at;
-    }
-    let mut i = 0;
-    while i < text.len() {
-        line[at + i] = text[i];
-        i = i + 1;
-    }
-    at + text.len()
+    let end = at + text.len();
+    line[at..end].copy_from_slice(text);
+    end
 }
 
 // A number's decimal digits.

@@ -3,6 +3,7 @@ ghost use Rattle.std.specs.Prelude.{◌≡◌};
 ghost use Rattle.rows.specs.Rows.{lists, code_for, numbers_after, marks_after, codes_after};
 
 use rows::row::row;
+use rows::types::code;
 
 // 0 is returned, or the refusal's number, whose place is 0.
 pub fn razovinto_row(
@@ -26,6 +27,5 @@ pub fn razovinto_row(
         codes_after (lists kinds.now lefts.now rights.now) numbers.old
         marks.old codes.old }
 {
-    let answer = row(kinds, lefts, rights, numbers, marks, codes);
-    answer.number()
+    code(row(kinds, lefts, rights, numbers, marks, codes))
 }

@@ -4,7 +4,7 @@
 use mathlib.Core.Path.{◌≡◌, refl, ap, ap₂, sym, ◌∙◌}
 use mathlib.Core.List.{List, [], ◌∷◌, ◌++◌}
 use Prim.Native.Nat.{ℕ, zero, suc, ◌+◌, ◌*◌, ◌/◌, ◌%◌, ◌^◌, ◌≤◌, ◌<◌}
-use native.Mathlib.Nat.{mod-add-div, mod-lt, div-one, div-div-eq-div-mul, div-eq_of_lt, pow-zero, pow-succ'}
+use native.Mathlib.Nat.{mod-add-div, mod-lt, div-one, div-div-eq-div-mul, div-eq_of_lt, pow-zero, pow-suc, pow-succ'}
 use native.Mathlib.Nat.{pow-le-pow_right}
 use native.Mathlib.Decide.{dec_lt}
 use native.Mathlib.Omega.{arith}
@@ -12,6 +12,8 @@ use lib.Arith.{digits_div, digits_mod}
 use lib.Pow.{pow-add}
 use lib.ListN.{length, take, drop, length-take, length-drop, get_or-eq_default}
 use lib.Seq.{drop-cons, drop-drop, get_or-take, get_or-drop, length-take-le, take-add}
+use Rattle.std.specs.Int.{w32, w64, to_le_bytes, bytes_low_first}
+use Rattle.std.specs.Int as Core
 use Rattle.little.specs.Bytes.{byte_at, Bytes, part, little, bytes_of, byte_of}
 
 -- ---- the bytes of a number
@@ -35,6 +37,28 @@ bytes-at (suc k) n zero h = ap (λ m. m % 256) (sym (ap (λ m. n / m) (pow-zero 
 bytes-at (suc k) n (suc j) h =
     bytes-at k (n / 256) j (omega arith)
     ∙ ap (λ m. m % 256) (div-div-eq-div-mul n 256 (256 ^ j) ∙ ap (λ m. n / m) (sym (pow-succ' 256 j)))
+
+-- the same bytes as std's methods give them
+low-first : (i k n : ℕ) → bytes_low_first i k n ≡ bytes_of k (n / 256 ^ i)
+unfolding bytes_of
+low-first i zero n = refl
+low-first i (suc k) n =
+    ap₂ ◌∷◌ (here i)
+    (low-first (suc i) k n
+    ∙ ap (bytes_of k) (ap (λ m. n / m) (pow-suc 256 i) ∙ sym (div-div-eq-div-mul n (256 ^ i) 256)))
+  where
+    here : (j : ℕ) → Core.byte_at j n ≡ n / 256 ^ j % 256
+    here zero = ap (λ m. m % 256) (sym (ap (λ m. n / m) (pow-zero 256) ∙ div-one n))
+    here (suc j) = refl
+
+whole : (k n : ℕ) → bytes_low_first 0 k n ≡ bytes_of k n
+whole k n = low-first 0 k n ∙ ap (bytes_of k) (ap (λ m. n / m) (pow-zero 256) ∙ div-one n)
+
+pub le-bytes-4 : (n : ℕ) → to_le_bytes w32 n ≡ bytes_of 4 n
+le-bytes-4 n = whole 4 n
+
+pub le-bytes-8 : (n : ℕ) → to_le_bytes w64 n ≡ bytes_of 8 n
+le-bytes-8 n = whole 8 n
 
 -- a byte is eight bits
 pub shifted : (j : ℕ) → 2 ^ (8 * j) ≡ 256 ^ j

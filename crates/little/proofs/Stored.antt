@@ -4,11 +4,12 @@
 use mathlib.Core.Path.{◌≡◌, ap, sym, ◌∙◌}
 use mathlib.Core.Bool.{cond}
 use mathlib.Core.List.{List, ◌++◌, append_assoc}
-use Prim.Native.Nat.{ℕ, ◌+◌, ◌≤◌, ◌<◌}
+use Prim.Native.Nat.{ℕ, ◌+◌, ◌-◌, ◌≤◌, ◌<◌}
 use native.Mathlib.Decide.{dec_lt}
 use native.Mathlib.Nat.{zero-add}
 use native.Mathlib.Omega.{arith}
 use borrow.Author.Tests.{le-leb, lt-leb}
+use borrow.Rule.Slice.PartMut.{put_mid}
 use lib.ListN.{length, take, drop, length-append}
 use lib.Seq.{length-take-le, take-append_seam, drop-append_seam, drop-append-add, drop-drop, sets, length-sets, sets-eq}
 use Rattle.places.specs.Places.{overlaid}
@@ -52,6 +53,14 @@ put-between from k xs old e h =
     sym (append_assoc (take from old) xs (drop k (drop from old)))
     ∙ ap (λ l. take from old ++ xs ++ l) (drop-drop k from old ∙ ap (λ m. drop (from + m) old) (sym e))
     ∙ sym (put-there from xs old (omega arith))
+
+-- and the same as the code has it, of a part that a call writes
+pub put-mid
+    : (from k : ℕ) (xs now old : List ℕ) → now ≡ xs → length xs ≡ k → from + k ≤ length old →
+    put_mid from (from + k - from) old now ≡ put from xs old
+put-mid from k xs now old w e h =
+    let n : from + k - from ≡ k = omega arith in
+    ap (λ j. put_mid from j old now) n ∙ ap (put_mid from k old) w ∙ put-between from k xs old e h
 
 pub put-later-first
     : (xs ys old : List ℕ) → length xs + length ys ≤ length old →

@@ -7,7 +7,7 @@ use Prim.Native.Nat.{ℕ, ◌/◌, ◌%◌}
 use lib.Dec.{eqb}
 use borrow.Author.Tests.{eqb-true, eq-eqb, lt-ltb}
 use Rattle.whole.specs.Logarithm.{log_of}
-use Rattle.checked.specs.declared.types.Checked64.TheVariants.{Fits}
+use Rattle.checked.specs.declared.types.Checked.TheVariants.{Fits}
 use Rattle.checked.specs.Value.{Value, Stands, checked_of}
 use Rattle.checked.specs.Paper.{Paper, given, refused, value_in, quotient_of, remainder_of, logarithm_of}
 use Rattle.checked.proofs.Limit.{fits, over}

@@ -1,4 +1,2 @@
--- The laws on the widths, once for all of them.
-pub mod Widths
-pub mod Unique
+-- Upstream's clauses at the three widths.
 pub mod Overflow

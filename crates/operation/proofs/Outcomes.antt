@@ -8,23 +8,21 @@ use native.Mathlib.Nat.{le-div_iff_mul-le, div-add-mod, mul-le-mul_left}
 use native.Mathlib.Omega.{arith}
 use borrow.Author.Tests.{eq-eqb, ne_eqb, le-leb, lt-leb, lt-ltb, le-ltb}
 use lib.Dec.{eqb}
+use Rattle.std.specs.Prelude.{Option, Some, None}
 use Rattle.whole.specs.Logarithm.{log_of}
-use Rattle.checked.specs.declared.types.Both.{Both}
-use Rattle.checked.specs.declared.types.Both.TheVariants as both
-use Rattle.checked.specs.declared.types.Checked64.TheVariants.{Fits, Overflowed}
+use Rattle.checked.specs.declared.types.Checked.TheVariants.{Fits, Overflowed}
 use Rattle.checked.specs.Value.{Value, checked_of, sum_of, product_of, raised_of, both_of, OneOverflowed}
-use Rattle.checked.specs.Paper.{Paper, given, refused, power_of}
+use Rattle.checked.specs.Paper.{Paper, given, refused, quotient_of, remainder_of, power_of, logarithm_of}
 use Rattle.checked.specs.Pair.{pair, pair_of}
 use Rattle.checked.proofs.BothFit.{both-are}
 use Rattle.checked.proofs.Unique.{both-is}
 use Rattle.checked.proofs.Refused.{not-overflowed}
-use Rattle.shape.specs.Items.{Operation, sum, product, quotient, remainder, power, logarithm, operation, kind_of}
-use Rattle.shape.proofs.Codes.{kind_at, kind-unknown}
+use Rattle.shape.specs.Items.{Operation, sum, product, quotient, remainder, power, logarithm}
 use Rattle.steps.specs.declared.types.Phase.TheVariants.{InPower, InLogarithm}
 use Rattle.steps.specs.Steps.{Outcome, value, within, fails, powering, power_step, dividing}
 use Rattle.steps.specs.Steps.{at_once, unless_refused, begun}
-use Rattle.steps.proofs.Apart.{power-apart}
-use Rattle.operation.specs.Work.{begun_as, SoundLogarithm}
+use Rattle.steps.proofs.Apart.{power-apart, logarithm-apart}
+use Rattle.operation.specs.Work.{SoundLogarithm}
 
 -- ---- within a power and a logarithm
 
@@ -89,18 +87,12 @@ given-goes (Fits n) w = refl
 given-goes Overflowed w = refl
 
 -- an answer of checked values had in one step
-abbrev told : Paper → Outcome
+abbrev pub told : Paper → Outcome
 told p = unless_refused p (at_once p)
 
 told-value : (v : Value) → value v ≡ told (given v)
 told-value (Fits n) = refl
 told-value Overflowed = refl
-
--- a quotient and a remainder, by the test of the divisor
-told-divided
-    : (m : ℕ) {s t : Bool} → s ≡ t →
-    told (cond t (refused 1) (given (Fits m))) ≡ told (cond s (refused 1) (given (Fits m)))
-told-divided m e = sym (ap (λ t. told (cond t (refused 1) (given (Fits m)))) e)
 
 module _ (M : ℕ) where
   pub begun-sum : (a b : Value) → value (sum_of M a b) ≡ begun M sum a b
@@ -115,21 +107,13 @@ module _ (M : ℕ) where
   unfolding begun
   begun-power l r = given-goes (raised_of M (Fits l) (Fits r)) (powering (checked_of M 1) (Fits l) r)
 
-  pub begun-quotient : (l r : ℕ) → (r ≡ 0 → ⊥) → value (Fits (l / r)) ≡ begun M quotient (Fits l) (Fits r)
+  pub begun-quotient : (a b : Value) → told (quotient_of a b) ≡ begun M quotient a b
   unfolding begun
-  begun-quotient l r n = told-divided (l / r) (ne_eqb r 0 n)
+  begun-quotient a b = refl
 
-  pub begun-remainder : (l r : ℕ) → (r ≡ 0 → ⊥) → value (Fits (l % r)) ≡ begun M remainder (Fits l) (Fits r)
+  pub begun-remainder : (a b : Value) → told (remainder_of a b) ≡ begun M remainder a b
   unfolding begun
-  begun-remainder l r n = told-divided (l % r) (ne_eqb r 0 n)
-
-  pub quotient-by-zero : (l r : ℕ) → r ≡ 0 → fails 1 ≡ begun M quotient (Fits l) (Fits r)
-  unfolding begun
-  quotient-by-zero l r z = told-divided (l / r) (eq-eqb r 0 z)
-
-  pub remainder-by-zero : (l r : ℕ) → r ≡ 0 → fails 1 ≡ begun M remainder (Fits l) (Fits r)
-  unfolding begun
-  remainder-by-zero l r z = told-divided (l % r) (eq-eqb r 0 z)
+  begun-remainder a b = refl
 
   -- a logarithm behind its test of the base
   abbrev logarithm_begun : ℕ → ℕ → Bool → Outcome
@@ -145,87 +129,40 @@ module _ (M : ℕ) where
 
 -- ---- with an overflowed operand
 
+module _ (M : ℕ) (a b : Value) (o : OneOverflowed a b) where
+  pub power-at-once : value (raised_of M a b) ≡ begun M power a b
+  unfolding begun
+  power-at-once = told-value (raised_of M a b) ∙ ap (unless_refused (power_of M a b)) (sym (power-apart M a b o))
+
+  pub logarithm-at-once : told (logarithm_of a b) ≡ begun M logarithm a b
+  unfolding begun
+  logarithm-at-once = ap (unless_refused (logarithm_of a b)) (sym (logarithm-apart M a b o))
+
 -- where one fits, the other is the overflowed one
 pub other-overflowed : (a b : Value) (l : ℕ) → OneOverflowed a b → a ≡ Fits l → b ≡ Overflowed
 other-overflowed a b l (inl e) f = absurd (not-overflowed l (sym f ∙ e))
 other-overflowed a b l (inr e) f = e
 
-first-overflowed : (a b : Value) (r : ℕ) → OneOverflowed a b → b ≡ Fits r → a ≡ Overflowed
-first-overflowed a b r (inl e) f = e
-first-overflowed a b r (inr e) f = absurd (not-overflowed r (sym f ∙ e))
+-- ---- by what `both` says of the two
 
-module _ (M : ℕ) (a b : Value) where
-  -- what has to fit is asked for first
-  pub quotient-asks : a ≡ Overflowed → fails 3 ≡ begun M quotient a b
-  unfolding begun
-  quotient-asks e = ap (λ v. begun M quotient v b) (sym e)
-
-  pub remainder-asks : a ≡ Overflowed → fails 3 ≡ begun M remainder a b
-  unfolding begun
-  remainder-asks e = ap (λ v. begun M remainder v b) (sym e)
-
-  pub logarithm-asks : b ≡ Overflowed → fails 3 ≡ begun M logarithm a b
-  unfolding begun
-  logarithm-asks e = asks a ∙ ap (begun M logarithm a) (sym e)
-    where
-      asks : (a : Value) → fails 3 ≡ begun M logarithm a Overflowed
-      asks (Fits l) = refl
-      asks Overflowed = refl
-
-  -- and where it fits the answer is known
-  module _ (o : OneOverflowed a b) where
-    pub quotient-known : (l : ℕ) → a ≡ Fits l → value (Fits 0) ≡ begun M quotient a b
-    unfolding begun
-    quotient-known l e = ap₂ (begun M quotient) (sym e) (sym (other-overflowed a b l o e))
-
-    pub remainder-known : (l : ℕ) → a ≡ Fits l → value (Fits l) ≡ begun M remainder a b
-    unfolding begun
-    remainder-known l e = ap₂ (begun M remainder) (sym e) (sym (other-overflowed a b l o e))
-
-    pub logarithm-known : (r : ℕ) → b ≡ Fits r → value (Fits 0) ≡ begun M logarithm a b
-    unfolding begun
-    logarithm-known r e = ap₂ (begun M logarithm) (sym (first-overflowed a b r o e)) (sym e)
-
-    pub power-at-once : value (raised_of M a b) ≡ begun M power a b
-    unfolding begun
-    power-at-once = told-value (raised_of M a b) ∙ ap (unless_refused (power_of M a b)) (sym (power-apart M a b o))
-
--- ---- by the kind's code
-
-module _ (M : ℕ) (a b : Value) (k : ℕ) where
-  -- where the code is an operation's, it is begun
-  pub begins
-      : {j : ℕ} {q : Operation} {o : Outcome} → kind_of j ≡ operation q → k ≡ j → o ≡ begun M q a b →
-      o ≡ begun_as M (kind_of k) a b
-  begins h i e = e ∙ ap (λ κ. begun_as M κ a b) (sym (ap kind_of i ∙ h))
-
-  -- 0 is a literal's, and there is no kind from 7 on
-  pub literal-begins : k ≡ 0 → fails 8 ≡ begun_as M (kind_of k) a b
-  literal-begins z = sym (ap (λ κ. begun_as M κ a b) (ap kind_of z ∙ kind_at 0))
-
-  pub unknown-begins : 6 < k → fails 8 ≡ begun_as M (kind_of k) a b
-  unknown-begins h = sym (ap (λ κ. begun_as M κ a b) (kind-unknown k h))
-
-  -- by what `both` says of the two
-  module _ {x : Both} (told : pair x ≡ pair_of a b) where
-    -- both operands fit, and so the operation begins with their numbers
-    pub fitting-begins
-        : (l r : ℕ) {o : Outcome} → x ≡ both.Numbers l r → o ≡ begun_as M (kind_of k) (Fits l) (Fits r) →
-        o ≡ begun_as M (kind_of k) a b
-    fitting-begins l r e f =
-        let w = both-are a b l r (sym (both-is a b told) ∙ e) in
-        f ∙ ap₂ (begun_as M (kind_of k)) (sym w.0) (sym w.1)
+-- both operands fit, and so the operation begins with their numbers
+pub fitting-begins
+    : (M : ℕ) (o : Operation) (a b : Value) (l r : ℕ) {x : Option (ℕ × ℕ)} {w : Outcome} → pair x ≡ pair_of a b →
+    x ≡ Some (l, r) → w ≡ begun M o (Fits l) (Fits r) → w ≡ begun M o a b
+fitting-begins M o a b l r told e f =
+    let w = both-are a b l r (sym (both-is a b told) ∙ e) in
+    f ∙ ap₂ (begun M o) (sym w.0) (sym w.1)
 
 -- or one doesn't
-Numbered : Both → Type 0
-Numbered (both.Numbers l r) = Unit {0}
-Numbered both.Overflowed = ⊥
+Numbered : Option (ℕ × ℕ) → Type 0
+Numbered (Some p) = Unit {0}
+Numbered None = ⊥
 
-pub one-overflowed : (a b : Value) {x : Both} → pair x ≡ pair_of a b → x ≡ both.Overflowed → OneOverflowed a b
+pub one-overflowed : (a b : Value) {x : Option (ℕ × ℕ)} → pair x ≡ pair_of a b → x ≡ None → OneOverflowed a b
 unfolding Numbered
 one-overflowed a b told e = by-marks a b (sym (both-is a b told) ∙ e)
   where
-    by-marks : (a b : Value) → both_of a b ≡ both.Overflowed → OneOverflowed a b
+    by-marks : (a b : Value) → both_of a b ≡ None → OneOverflowed a b
     by-marks (Fits l) (Fits r) e = absurd (subst Numbered e tt)
     by-marks (Fits l) Overflowed e = inr refl
     by-marks Overflowed b e = inl refl

@@ -6,7 +6,7 @@ use mathlib.Core.Path.{◌≡◌, refl, ap, sym, ◌∙◌, subst}
 use mathlib.Core.Logic.{◌↔◌}
 use Prim.Native.Nat.{ℕ}
 use native.Mathlib.Omega.{arith}
-use Rattle.checked.specs.declared.types.Checked64.TheVariants.{Overflowed}
+use Rattle.checked.specs.declared.types.Checked.TheVariants.{Overflowed}
 use Rattle.checked.specs.Value.{Value, BothNumbers}
 use Rattle.shape.specs.Items.{Operation, Kind, literal, operation, unknown}
 use Rattle.shape.specs.Faults.{Operates}

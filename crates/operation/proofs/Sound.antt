@@ -7,7 +7,7 @@ use Prim.Native.Nat.{ℕ, ◌-◌, ◌≤◌, ◌<◌, zero-le}
 use native.Mathlib.Omega.{arith}
 use lib.Dec.{eqb, leb, ltb}
 use borrow.Author.Tests.{eqb-true, le-leb, lt-leb, lt-ltb, le-ltb}
-use Rattle.checked.specs.declared.types.Checked64.TheVariants.{Fits, Overflowed}
+use Rattle.checked.specs.declared.types.Checked.TheVariants.{Fits, Overflowed}
 use Rattle.checked.specs.Value.{Value, limit_of, checked_of}
 use Rattle.checked.proofs.Promises.{logarithm-given-exactly}
 use Rattle.shape.specs.Items.{Operation, sum, product, quotient, remainder, power, logarithm}

@@ -1,7 +1,8 @@
 -- An operation's first step, and its further steps from a phase on, as far as an allowance brings it: what it has come
 -- to, and after how many of the run's steps.
 -- Assumes nothing.
-use Rattle.std.specs.Prelude.{Bool, true, false, cond, ◌&&◌, ℕ, zero, suc, ◌+◌, ◌-◌, ◌^◌, ◌≤◌, ◌<◌, leb, ltb}
+use Rattle.std.specs.Prelude.{Bool, true, false, cond, ◌&&◌, ℕ, zero, suc, ◌+◌, ◌-◌, ◌^◌, ◌≤◌, ◌<◌, leb, ltb, Result, Ok, Err}
+use Rattle.checked.specs.declared.refusal.Refusal.{Refusal}
 use Rattle.checked.specs.Value.{Value, limit_of}
 use Rattle.checked.specs.Paper.{number_of}
 use Rattle.shape.specs.Items.{Kind, literal, operation, unknown}
@@ -9,10 +10,9 @@ use Rattle.steps.specs.declared.types.Logarithm.{Logarithm}
 use Rattle.steps.specs.declared.types.Phase.{Phase}
 use Rattle.steps.specs.declared.types.Phase.TheVariants.{Between, InPower, InLogarithm}
 use Rattle.steps.specs.Steps as steps
-use Rattle.operation.specs.declared.types.Outcome.{Outcome}
-use Rattle.operation.specs.declared.types.Outcome.TheVariants as outcomes
+use Rattle.operation.specs.declared.types.Progress.{Progress}
+use Rattle.operation.specs.declared.types.Progress.TheVariants as progress
 use Rattle.operation.specs.declared.types.Reached.{Reached}
-use Rattle.operation.specs.declared.types.Reached.TheVariants as reached
 
 -- ---- the first step
 
@@ -54,14 +54,16 @@ work_of M p t a = cond (sound p) (gone_on M (a - t) t (steps.within p)) (reach (
 
 -- ---- the code's answers
 
-abbrev pub outcome : Outcome → steps.Outcome
-outcome (outcomes.Value v) = steps.value v
-outcome (outcomes.Within p) = steps.within p
-outcome (outcomes.Refused r) = steps.fails (number_of r)
+abbrev pub progress_of : Progress → steps.Outcome
+progress_of (progress.Value v) = steps.value v
+progress_of (progress.Within p) = steps.within p
+
+abbrev pub outcome : Result Progress Refusal → steps.Outcome
+outcome (Ok p) = progress_of p
+outcome (Err r) = steps.fails (number_of r)
 
 abbrev pub reach_of : Reached → Reach
-reach_of (reached.Value v t) = reach (steps.value v) t
-reach_of (reached.Within p t) = reach (steps.within p) t
+reach_of r = reach (progress_of r.progress) r.taken
 
 -- ---- what the private functions ask of each other
 

@@ -3,39 +3,35 @@
 ghost use Rattle.std.specs.Prelude.{◌≡◌, ℕ, ◌-◌};
 ghost use Rattle.steps.specs.declared.types.Phase.TheVariants.{InPower, InLogarithm};
 ghost use Rattle.steps.specs.Steps as steps;
-ghost use Rattle.operation.specs.Work.{outcome, Sound, gone_on, reach_of};
+ghost use Rattle.operation.specs.Work.{progress_of, Sound, gone_on, reach_of};
 
-use crate::types::{Outcome, Reached};
+use crate::types::{Progress, Reached};
 use checked::limited::mul_checked;
 use checked::types::Checked64;
 use steps::types::{Logarithm, Phase, Power};
 
 // A power ends at exponent 0 with its first value; with any other it enters its phase.
-pub(crate) fn powering(first: Checked64, second: Checked64, exponent: u64) -> Outcome
-    ensures { outcome result ≡ steps.powering first second exponent }
+pub(crate) fn powering(first: Checked64, second: Checked64, exponent: u64) -> Progress
+    ensures { progress_of result ≡ steps.powering first second exponent }
 {
     if exponent == 0 {
-        return Outcome::Value(first);
+        return Progress::Value(first);
     }
-    Outcome::Within(Phase::InPower(Power {
-        first: first,
-        second: second,
-        exponent: exponent,
+    Progress::Within(Phase::InPower(Power {
+        first,
+        second,
+        exponent,
     }))
 }
 
 // A logarithm ends with its count where what is left is below the base; from the base up it enters its phase.
-pub(crate) fn dividing(base: u64, left: u64, count: u64) -> Outcome
-    ensures { outcome result ≡ steps.dividing base left count }
+pub(crate) fn dividing(base: u64, left: u64, count: u64) -> Progress
+    ensures { progress_of result ≡ steps.dividing base left count }
 {
     if base <= left {
-        return Outcome::Within(Phase::InLogarithm(Logarithm {
-            base: base,
-            left: left,
-            count: count,
-        }));
+        return Progress::Within(Phase::InLogarithm(Logarithm { base, left, count }));
     }
-    Outcome::Value(Checked64::Fits(count))
+    Progress::Value(Checked64::Fits(count))
 }
 
 // A power's further steps. Each takes a binary digit of the exponent, from the last one up; the square after the first
@@ -53,19 +49,22 @@ pub(crate) fn power_on(limit: u64, p: Power, from: u64, allowance: u64) -> Reach
             first = mul_checked(limit, first, second);
         }
         if exponent < 2 {
-            return Reached::Value(first, taken);
+            return Reached {
+                progress: Progress::Value(first),
+                taken,
+            };
         }
         second = mul_checked(limit, second, second);
         exponent = exponent / 2;
     }
-    Reached::Within(
-        Phase::InPower(Power {
-            first: first,
-            second: second,
-            exponent: exponent,
-        }),
+    Reached {
+        progress: Progress::Within(Phase::InPower(Power {
+            first,
+            second,
+            exponent,
+        })),
         taken,
-    )
+    }
 }
 
 // A logarithm's further steps. Each divides by the base, and counts one more.
@@ -82,15 +81,14 @@ pub(crate) fn logarithm_on(q: Logarithm, from: u64, allowance: u64) -> Reached
         left = left / base;
         count = count + 1;
         if left < base {
-            return Reached::Value(Checked64::Fits(count), taken);
+            return Reached {
+                progress: Progress::Value(Checked64::Fits(count)),
+                taken,
+            };
         }
     }
-    Reached::Within(
-        Phase::InLogarithm(Logarithm {
-            base: base,
-            left: left,
-            count: count,
-        }),
+    Reached {
+        progress: Progress::Within(Phase::InLogarithm(Logarithm { base, left, count })),
         taken,
-    )
+    }
 }

@@ -2,8 +2,7 @@
 // differ as the same: so no digit is left out.
 ghost use Rattle.std.specs.Prelude.{◌≤◌};
 
-use crate::text::first;
-use lines::put::word;
+use std::fmt;
 
 // The smallest float has 149 digits behind the point, and the greatest 39 before it.
 const DIGITS: usize = 152;
@@ -12,18 +11,16 @@ const DIGITS: usize = 152;
 fn product(digit: u8, factor: u8) -> u64
     ensures { result ≤ 1275 }
 {
-    if factor == 0 {
-        return 0;
+    match factor {
+        0 => 0,
+        2 => 2 * u64::from(digit),
+        _ => 5 * u64::from(digit),
     }
-    if factor == 2 {
-        return 2 * (digit as u64);
-    }
-    5 * (digit as u64)
 }
 
 // The number that decimal digits stand for, the lowest first, times a factor, and so much more.
 fn multiply(digits: &mut [u8; DIGITS], factor: u8, more: u32) {
-    let mut carry = more as u64;
+    let mut carry = u64::from(more);
     for digit in digits.iter_mut() {
         let n = product(*digit, factor) + carry;
         *digit = (n % 10) as u8;
@@ -39,60 +36,51 @@ fn raise(digits: &mut [u8; DIGITS], size: u32, factor: u8, times: u32) {
     }
 }
 
-// The digit at a place counted from the last one, where so many stand behind the point. A zero that nothing stands before
-// is left out, but for the last one before the point.
-fn put_digit(
-    line: &mut [u8],
-    at: usize,
-    is_first: bool,
-    digit: u8,
-    place: usize,
-    point: usize,
-) -> usize {
-    if is_first && digit == 0 && point < place {
-        return at;
-    }
-    let glyph = b'0' + digit % 10;
-    if place < point && place + 1 == point {
-        return word(line, at, &[b'.', glyph]);
-    }
-    word(line, at, &[glyph])
-}
+// The number with these bits.
+#[derive(Clone, Copy)]
+pub(crate) struct Exact(pub(crate) u32);
 
-// Digits with the point before the last `point` of them. Zeros at the end of those aren't kept.
-fn put_digits(line: &mut [u8], from: usize, digits: &[u8; DIGITS], point: usize) -> usize {
-    let mut at = from;
-    let mut end = from;
-    for (place, digit) in digits.iter().enumerate().rev() {
-        at = put_digit(line, at, at == from, *digit, place, point);
-        if *digit != 0 || point <= place {
-            end = at;
+impl fmt::Display for Exact {
+    // The number is its size times 2^(scale - 150). A fraction of 2^n is as many times 5^n of 10^n.
+    fn fmt<W: fmt::Write>(&self, f: &mut fmt::Formatter<W>) -> fmt::Result {
+        let fraction = self.0 % 0x80_0000;
+        let (size, scale) = match self.0 / 0x80_0000 % 256 {
+            0 => (fraction, 1),
+            scale => (fraction + 0x80_0000, scale),
+        };
+        let mut digits = [0u8; DIGITS];
+        let point = if scale < 150 {
+            raise(&mut digits, size, 5, 150 - scale);
+            150 - scale
+        } else {
+            raise(&mut digits, size, 2, scale - 150);
+            0
+        };
+        if 0x8000_0000 <= self.0 {
+            write!(f, "-")?;
         }
+        write_digits(f, &digits, point as usize)
     }
-    end
 }
 
-// The number with these bits, which is its size times 2^(scale - 150). A fraction of 2^n is as many times 5^n of 10^n.
-pub(crate) fn put_exact(line: &mut [u8], at: usize, bits: u32) -> usize {
-    let mut size = bits % 0x80_0000;
-    let mut scale = bits / 0x80_0000 % 256;
-    if scale == 0 {
-        scale = 1;
-    } else {
-        size = size + 0x80_0000;
+// Digits with the point before the last `point` of them. Zeros that nothing stands before are left out, but for the last one
+// before the point, and so are those that nothing but zeros stands after behind the point.
+fn write_digits<W: fmt::Write>(
+    f: &mut fmt::Formatter<W>,
+    digits: &[u8; DIGITS],
+    point: usize,
+) -> fmt::Result {
+    let lowest = digits.iter().position(|digit| *digit != 0).unwrap_or(point);
+    let highest = digits
+        .iter()
+        .rposition(|digit| *digit != 0)
+        .unwrap_or(point);
+    for place in (lowest.min(point)..=highest.max(point)).rev() {
+        if place < point && place + 1 == point {
+            write!(f, ".")?;
+        }
+        let digit = digits.get(place).copied().unwrap_or(0);
+        write!(f, "{digit}")?;
     }
-    let mut point = 0;
-    let mut factor = 2;
-    let mut times = 0;
-    if scale < 150 {
-        point = 150 - scale;
-        factor = 5;
-        times = point;
-    } else {
-        times = scale - 150;
-    }
-    let mut digits = [0u8; DIGITS];
-    raise(&mut digits, size, factor, times);
-    let after = word(line, at, first(b"-", (bits / 0x8000_0000) as usize));
-    put_digits(line, after, &digits, point as usize)
+    Ok(())
 }

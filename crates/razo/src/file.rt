@@ -1,13 +1,17 @@
 // A file that is read in parts.
+use crate::line::Line;
+use crate::status::Stop;
 use crate::system::{Streams, System};
-use crate::text::{fail, first, same};
-use lines::put::{number, word};
+use crate::text::Report;
 use std::fs::File;
 use std::io;
 use std::io::{ErrorKind, Read};
 
 // How many bytes a part has: as many as a pipe holds, so that little time goes into calls.
 pub(crate) const PART: usize = 65536;
+
+// The bytes of a block.
+pub(crate) const BLOCK: usize = 512;
 
 // Standard input, or a file of a name. It stays open to this value's end, and standard input to the program's.
 #[derive(Drop)]
@@ -25,12 +29,12 @@ impl<S: Read, F: Read> Read for Source<S, F> {
     }
 }
 
-// How far a part was filled: to its own end, or so many bytes to the end of the input or to a read that failed.
+// A part's bytes: all that it has room for, or those up to the end of the input or to a read that failed.
 #[derive(Clone, Copy)]
-pub(crate) enum Filled {
-    Full,
-    Ended(usize),
-    Failed(usize, io::Error),
+pub(crate) enum Filled<'a> {
+    Full(&'a [u8]),
+    Ended(&'a [u8]),
+    Failed(&'a [u8], io::Error),
 }
 
 // The script `razo` lends the program the file of a word that isn't UTF-8, on the descriptor of this number and the word's
@@ -39,23 +43,26 @@ const LENT: u64 = 100;
 
 // The file of such a word. std opens no descriptor by its number, but the system has a name for each.
 fn open_lent<R: System>(rt: &R, index: usize) -> io::Result<R::File> {
-    let mut path = [0u8; 64];
-    let mut at = word(&mut path, 0, b"/proc/self/fd/");
-    at = number(&mut path, at, count_on(LENT, index as u64));
-    match str::from_utf8(first(&path, at)) {
+    let descriptor = count_on(LENT, index as u64);
+    let mut path = Line::<64>::new();
+    path.show(format_args!("/proc/self/fd/{descriptor}"));
+    match str::from_utf8(path.as_bytes()) {
         Ok(path) => File::open(rt, path),
         Err(_) => Err(io::Error::from(ErrorKind::InvalidFilename)),
     }
 }
 
-// The file that a word of the command line names, or why it can't be opened. `-` is standard input. std takes names of
+// The name of standard input.
+pub(crate) const STANDARD: &[u8] = b"-";
+
+// The file that a word of the command line names, or why it can't be opened. std takes names of
 // UTF-8 alone.
 pub(crate) fn open<R: System>(
     rt: &R,
     index: usize,
     name: &[u8],
 ) -> io::Result<Source<R::Reader, R::File>> {
-    if same(name, b"-") {
+    if name == STANDARD {
         return Ok(Source::Standard(rt.reader()));
     }
     match str::from_utf8(name) {
@@ -65,39 +72,34 @@ pub(crate) fn open<R: System>(
 }
 
 // Reads until the part is full, the input ends or a read fails.
-pub(crate) fn fill<R: Read>(input: &mut R, part: &mut [u8]) -> Filled {
+pub(crate) fn fill<'a, R: Read>(input: &mut R, part: &'a mut [u8]) -> Filled<'a> {
     let mut have = 0;
     while have < part.len() {
         match input.read(&mut part[have..]) {
-            Ok(0) => return Filled::Ended(have),
+            Ok(0) => return Filled::Ended(&part[..have]),
             Ok(more) => have += more,
-            Err(error) => return Filled::Failed(have, error),
+            Err(error) => return Filled::Failed(&part[..have], error),
         }
     }
-    Filled::Full
+    Filled::Full(part)
 }
 
-// How many bytes of the part were filled, which are fewer than it has only where the input ended; or nothing where a read
-// failed, and that was told.
-pub(crate) fn take<R: Read>(
-    rt: &impl Streams,
-    input: &mut R,
-    name: &[u8],
-    part: &mut [u8],
-) -> Option<usize> {
+// The bytes that the part was filled with, which are fewer than it has only where the input ended; or that a read failed,
+// which was told.
+pub(crate) fn take<'a, R: Streams, F: Read>(
+    report: &Report<'_, R>,
+    input: &mut F,
+    part: &'a mut [u8],
+) -> Result<&'a [u8], Stop> {
     match fill(input, part) {
-        Filled::Full => Some(part.len()),
-        Filled::Ended(count) => Some(count),
-        Filled::Failed(_, error) => {
-            fail(rt, name, error);
-            None
-        }
+        Filled::Full(bytes) | Filled::Ended(bytes) => Ok(bytes),
+        Filled::Failed(_, error) => Err(report.fail(error)),
     }
 }
 
-// How many of so many bytes are in whole blocks.
-pub(crate) fn in_whole_blocks(bytes: usize) -> usize {
-    bytes - bytes % 512
+// The bytes of whole blocks, and those after them.
+pub(crate) fn in_whole_blocks(bytes: &[u8]) -> (&[u8], &[u8]) {
+    bytes.split_at(bytes.len() - bytes.len() % BLOCK)
 }
 
 // A count that goes on. No input is long enough for it to stay where it is.

@@ -1,7 +1,6 @@
 // How the tool is used.
-use crate::status::{WELL, WRONG};
+use crate::status::{Status, Stop};
 use crate::system::Streams;
-use std::io;
 
 const TEXT: &str = "\
 razo search FILE..
@@ -51,13 +50,13 @@ The exit status is
 ";
 
 // Whoever asks for it is told on standard output.
-pub(crate) fn help(rt: &impl Streams) -> io::Result<u8> {
+pub(crate) fn help(rt: &impl Streams) -> Result<Status, Stop> {
     rt.write_all(TEXT.as_bytes())?;
-    Ok(WELL)
+    Ok(Status::Well)
 }
 
 // Whoever gives no command is told on standard error.
-pub(crate) fn usage(rt: &impl Streams) -> u8 {
+pub(crate) fn usage(rt: &impl Streams) -> Stop {
     let _ = rt.write_error(TEXT.as_bytes());
-    WRONG
+    Stop::Ended(Status::Wrong)
 }

@@ -1,18 +1,17 @@
 // The least and the greatest reading of a level, whose floats and ground marks stand in two files, part by part. Which of
 // its refusals comes first is known when both files have ended: their lengths come before their places.
-ghost use Rattle.std.specs.Prelude.{◌+◌, ◌*◌, ◌≤◌, length};
-
-use crate::exact::put_exact;
-use crate::file::{PART, count_on, open, take};
-use crate::reason::complain_refusal;
-use crate::status::{WELL, WRONG};
+use crate::exact::Exact;
+use crate::file::{PART, STANDARD, count_on, open, take};
+use crate::line::Line;
+use crate::reason::Reason;
+use crate::status::{Status, Stop};
 use crate::system::{Streams, System};
-use crate::text::{complain, complain_form, fail, first, same, write_out};
-use checked::refusal::Refusal;
+use crate::text::{Report, complain, first};
+use checked::refusal::{Refusal, RefusedAt};
 use level::scan::scan;
-use level::types::{Extent, LevelScan};
-use lines::put::word;
-use std::io::{Read, Result};
+use level::types::Extent;
+use std::fmt;
+use std::io::Read;
 
 // Readings to a part, which holds their bytes.
 const READINGS: usize = 16384;
@@ -22,15 +21,7 @@ const READINGS: usize = 16384;
 struct Behind {
     bytes: u64,
     marks: u64,
-    scan: LevelScan,
-}
-
-// Whether both files have ended; or that one couldn't be read, which was told.
-#[derive(Clone, Copy)]
-enum Part {
-    On(Behind),
-    Ended(Behind),
-    Failed,
+    scan: Result<Extent, RefusedAt>,
 }
 
 // A level's floats, and its ground marks unless all of it is in the air.
@@ -40,209 +31,190 @@ struct Inputs<R> {
     ground: Option<R>,
 }
 
-// The names of both files.
-#[derive(Clone, Copy)]
-struct Names<'a> {
-    values: &'a [u8],
-    ground: &'a [u8],
+// Where what is wrong with either file is told.
+#[derive(Drop)]
+struct Level<'a, R> {
+    values: Report<'a, R>,
+    ground: Report<'a, R>,
 }
 
-// The float of four bytes, the lowest first. All NaNs are one: which it was is no matter for any answer.
+// The float with these bits. All NaNs are one: which it was is no matter for any answer.
 #[tactic(auto, using(std::proofs::lemmas::Float::not_nan_f32_bits))]
-fn float_at(bytes: &[u8], at: usize) -> f32
-    requires { at + 4 ≤ length bytes.now }
-{
-    let bits = little::bytes::word(bytes[at], bytes[at + 1], bytes[at + 2], bytes[at + 3]);
+fn float_of(bits: u32) -> f32 {
     if 0x7f80_0000 < bits % 0x8000_0000 {
-        return 0.0 / 0.0;
+        return f32::NAN;
     }
     f32::from_bits(bits)
 }
 
 // The scan of as many readings as the lent list takes.
-fn scan_part(bytes: &[u8], ground: &[u8], level: &mut [f32]) -> LevelScan
-    requires { 4 * length level.old ≤ length bytes.now }
-{
-    for i in 0..level.len() {
-        level[i] = float_at(bytes, 4 * i);
+fn scan_part(bytes: &[u8], ground: &[u8], level: &mut [f32]) -> Result<Extent, RefusedAt> {
+    let (readings, _) = bytes.as_chunks::<4>();
+    for (reading, four) in level.iter_mut().zip(readings) {
+        *reading = float_of(u32::from_le_bytes(*four));
     }
     scan(level, ground)
 }
 
-// The scan of what lies behind and of a part, which has so many readings before it. The first fault stays, and so does
-// the earlier one of equal readings; an empty part changes nothing.
-fn joined(before: LevelScan, behind: u64, part: LevelScan) -> LevelScan {
-    let LevelScan::Ranged(all) = before else {
-        return before;
+// The range of both. Of equal readings the earlier one stays: zeros with two signs are equal, and f32's `min` and `max` don't
+// say which of them they give.
+fn joined(all: Extent, part: Extent) -> Extent {
+    let least = if part.least < all.least {
+        part.least
+    } else {
+        all.least
     };
-    match part {
-        LevelScan::Ranged(extent) => {
-            let least = if extent.least < all.least {
-                extent.least
-            } else {
-                all.least
-            };
-            let greatest = if all.greatest < extent.greatest {
-                extent.greatest
-            } else {
-                all.greatest
-            };
-            LevelScan::Ranged(Extent { least, greatest })
-        }
-        LevelScan::Refused(refusal, place) => match refusal {
-            Refusal::FieldEmpty => before,
-            _ => LevelScan::Refused(refusal, count_on(behind, place)),
-        },
-    }
-}
-
-// What lies behind after so many of a part's bytes and marks. Readings without a mark aren't looked at, nor marks without a
-// reading: then the lengths differ, and nothing else is told.
-fn look(so_far: Behind, part: &[u8], bytes: usize, marks: &[u8], count: usize) -> Behind {
-    let ground = first(first(marks, count), bytes / 4);
-    let both = ground.len();
-    // Never so: a part has no more.
-    if READINGS < both {
-        return so_far;
-    }
-    if part.len() / 4 < both {
-        return so_far;
-    }
-    let mut level = [0f32; READINGS];
-    let scanned = scan_part(part, ground, &mut level[0..both]);
-    let before = so_far.scan;
-    Behind {
-        bytes: count_on(so_far.bytes, bytes as u64),
-        marks: count_on(so_far.marks, count as u64),
-        scan: joined(before, so_far.bytes / 4, scanned),
-    }
-}
-
-// How many ground marks the next part has. Where there is no file of them, as many zeros as readings are taken for them.
-fn take_marks<R: Read>(
-    rt: &impl Streams,
-    input: &mut Option<R>,
-    ground: &[u8],
-    marks: &mut [u8],
-    readings: usize,
-) -> Option<usize> {
-    match input {
-        Some(input) => take(rt, input, ground, marks),
-        None => Some(readings),
-    }
-}
-
-// The next part of both files.
-fn next_part<R: Read>(
-    rt: &impl Streams,
-    inputs: &mut Inputs<R>,
-    names: Names<'_>,
-    part: &mut [u8],
-    marks: &mut [u8],
-    so_far: Behind,
-) -> Part {
-    let Some(bytes) = take(rt, &mut inputs.values, names.values, part) else {
-        return Part::Failed;
+    let greatest = if all.greatest < part.greatest {
+        part.greatest
+    } else {
+        all.greatest
     };
-    let Some(count) = take_marks(rt, &mut inputs.ground, names.ground, marks, bytes / 4) else {
-        return Part::Failed;
-    };
-    let behind = look(so_far, part, bytes, marks, count);
-    if bytes < part.len() && count < marks.len() {
-        return Part::Ended(behind);
-    }
-    Part::On(behind)
+    Extent { least, greatest }
 }
 
-// The reading with these bits, exactly, and the bits.
-fn put_bits(line: &mut [u8], from: usize, before: &[u8], bits: u32) -> usize {
-    let mut digits = [0u8; 16];
-    let count = io::hex(bits as u64, 8, &mut digits);
-    let mut at = word(line, from, before);
-    at = put_exact(line, at, bits);
-    at = word(line, at, b" (bits 0x");
-    at = word(line, at, &digits[..count]);
-    word(line, at, b")\n")
-}
-
-// A line of a reading. No answer has a NaN, whose bits aren't known.
-fn put_reading(line: &mut [u8], from: usize, before: &[u8], x: f32) -> usize {
-    if x == x {
-        return put_bits(line, from, before, f32::to_bits(x));
-    }
-    from
-}
-
-fn say_extent(rt: &impl Streams, extent: Extent) -> Result<u8> {
-    let mut line = [0u8; 512];
-    let mut at = put_reading(&mut line, 0, b"least: ", extent.least);
-    at = put_reading(&mut line, at, b"greatest: ", extent.greatest);
-    write_out(rt, &line, at)?;
-    Ok(WELL)
-}
-
-// A mark's place is one of the file of marks.
-fn complain_place(rt: &impl Streams, names: Names<'_>, refusal: Refusal, place: u64) -> u8 {
-    let name = match refusal {
-        Refusal::BadMark => names.ground,
-        _ => names.values,
-    };
-    complain_refusal(rt, name, b": place #: ", &[place], refusal)
-}
-
-// The answer once both files have ended.
-fn conclude(rt: &impl Streams, names: Names<'_>, all: Behind) -> Result<u8> {
-    let bytes = all.bytes;
-    let readings = bytes / 4;
-    let marks = all.marks;
-    let scan = all.scan;
-    if bytes % 4 != 0 {
-        return Ok(complain_form(
-            rt,
-            names.values,
-            b": # bytes are no whole number of readings, of 4 bytes each",
-            &[bytes],
-            b"\n",
-        ));
-    }
-    if readings != marks {
-        return Ok(complain_refusal(
-            rt,
-            names.values,
-            b": # readings, # ground marks: ",
-            &[readings, marks],
-            Refusal::LengthsDiffer,
-        ));
-    }
-    if readings == 0 {
-        return Ok(complain_refusal(rt, names.values, b": ", &[0], Refusal::FieldEmpty));
-    }
-    match scan {
-        LevelScan::Ranged(extent) => say_extent(rt, extent),
-        LevelScan::Refused(refusal, place) => Ok(complain_place(rt, names, refusal, place)),
-    }
-}
-
-// Nothing says that a file ends, but no file has so many parts.
-fn level_parts<R: Read>(rt: &impl Streams, inputs: &mut Inputs<R>, names: Names<'_>) -> Result<u8> {
-    let mut part = [0u8; PART];
-    let mut marks = [0u8; READINGS];
-    let mut so_far = Behind {
-        bytes: 0,
-        marks: 0,
-        scan: LevelScan::Ranged(Extent {
-            least: 1.0 / 0.0,
-            greatest: -1.0 / 0.0,
-        }),
-    };
-    for _ in 0..u64::MAX {
-        match next_part(rt, inputs, names, &mut part, &mut marks, so_far) {
-            Part::On(now) => so_far = now,
-            Part::Ended(all) => return conclude(rt, names, all),
-            Part::Failed => return Ok(WRONG),
+impl Behind {
+    // The scan of what lies behind and of a part. The first fault stays; an empty part changes nothing.
+    fn scan_with(&self, part: Result<Extent, RefusedAt>) -> Result<Extent, RefusedAt> {
+        let all = self.scan?;
+        match part {
+            Ok(extent) => Ok(joined(all, extent)),
+            Err(refused) => match refused.refusal {
+                Refusal::FieldEmpty => Ok(all),
+                refusal => Err(refusal.at(count_on(self.bytes / 4, refused.place))),
+            },
         }
     }
-    Ok(WELL)
+
+    // What lies behind after a part's bytes and marks. Readings without a mark aren't looked at, nor marks without a reading:
+    // then the lengths differ, and nothing else is told.
+    fn look(&self, bytes: &[u8], marks: &[u8]) -> Behind {
+        let ground = first(marks, bytes.len() / 4);
+        let mut level = [0f32; READINGS];
+        let mut scan = self.scan;
+        // A part has no more marks.
+        if let Some(level) = level.get_mut(..ground.len()) {
+            scan = self.scan_with(scan_part(bytes, ground, level));
+        }
+        Behind {
+            bytes: count_on(self.bytes, bytes.len() as u64),
+            marks: count_on(self.marks, marks.len() as u64),
+            scan,
+        }
+    }
+}
+
+// A line of a reading: its number, exactly, and its bits. No answer has a NaN, whose bits aren't known.
+#[derive(Clone, Copy)]
+struct Reading {
+    called: &'static str,
+    value: f32,
+}
+
+impl fmt::Display for Reading {
+    fn fmt<W: fmt::Write>(&self, f: &mut fmt::Formatter<W>) -> fmt::Result {
+        let value = self.value;
+        if value.is_nan() {
+            return Ok(());
+        }
+        let called = self.called;
+        let bits = value.to_bits();
+        let exact = Exact(bits);
+        write!(f, "{called}: {exact} (bits 0x{bits:08x})\n")
+    }
+}
+
+fn say_extent(rt: &impl Streams, extent: Extent) -> Result<Status, Stop> {
+    let least = Reading {
+        called: "least",
+        value: extent.least,
+    };
+    let greatest = Reading {
+        called: "greatest",
+        value: extent.greatest,
+    };
+    let mut line = Line::<512>::new();
+    line.show(format_args!("{least}{greatest}"));
+    rt.write_all(line.as_bytes())?;
+    Ok(Status::Well)
+}
+
+impl<R: Streams> Level<'_, R> {
+    // A mark's place is one of the file of marks.
+    fn complain_place(&self, refused: RefusedAt) -> Stop {
+        let place = refused.place;
+        let reason = Reason(refused.refusal);
+        let what = format_args!(": place {place}: {reason}\n");
+        match refused.refusal {
+            Refusal::BadMark => self.ground.complain(what),
+            _ => self.values.complain(what),
+        }
+    }
+
+    // The answer once both files have ended.
+    fn conclude(&self, all: Behind) -> Result<Status, Stop> {
+        let bytes = all.bytes;
+        let marks = all.marks;
+        let readings = bytes / 4;
+        if bytes % 4 != 0 {
+            return Err(
+                self.values.complain(format_args!(
+                    ": {bytes} bytes are no whole number of readings, of 4 bytes each\n"
+                )),
+            );
+        }
+        if readings != marks {
+            let reason = Reason(Refusal::LengthsDiffer);
+            return Err(
+                self.values.complain(format_args!(
+                    ": {readings} readings, {marks} ground marks: {reason}\n"
+                )),
+            );
+        }
+        if readings == 0 {
+            let reason = Reason(Refusal::FieldEmpty);
+            return Err(self.values.complain(format_args!(": {reason}\n")));
+        }
+        match all.scan {
+            Ok(extent) => say_extent(self.values.rt, extent),
+            Err(refused) => Err(self.complain_place(refused)),
+        }
+    }
+
+    // The ground marks of the next part. Where there is no file of them, as many zeros as readings are taken for them.
+    fn take_marks<'a, F: Read>(
+        &self,
+        input: &mut Option<F>,
+        marks: &'a mut [u8],
+        readings: usize,
+    ) -> Result<&'a [u8], Stop> {
+        match input {
+            Some(input) => take(&self.ground, input, marks),
+            None => Ok(first(marks, readings)),
+        }
+    }
+
+    // Nothing says that a file ends, but no file has so many parts.
+    fn scan_parts<F: Read>(&self, inputs: &mut Inputs<F>) -> Result<Status, Stop> {
+        let mut part = [0u8; PART];
+        let mut marks = [0u8; READINGS];
+        let mut behind = Behind {
+            bytes: 0,
+            marks: 0,
+            scan: Ok(Extent {
+                least: f32::INFINITY,
+                greatest: f32::NEG_INFINITY,
+            }),
+        };
+        for _ in 0..u64::MAX {
+            let bytes = take(&self.values, &mut inputs.values, &mut part)?;
+            let ground = self.take_marks(&mut inputs.ground, &mut marks, bytes.len() / 4)?;
+            behind = behind.look(bytes, ground);
+            if bytes.len() < PART && ground.len() < READINGS {
+                return self.conclude(behind);
+            }
+        }
+        Ok(Status::Well)
+    }
 }
 
 // The indices of their words on the command line.
@@ -251,32 +223,30 @@ const VALUES: usize = 2;
 const GROUND: usize = 3;
 
 // The files of these names.
-pub(crate) fn level_command(rt: &impl System, values: &[u8], ground: Option<&[u8]>) -> Result<u8> {
+pub(crate) fn level_command(
+    rt: &impl System,
+    values: &[u8],
+    ground: Option<&[u8]>,
+) -> Result<Status, Stop> {
+    let level = Level {
+        values: Report::new(rt, values),
+        ground: Report::new(rt, ground.unwrap_or(b"")),
+    };
     let mut inputs = match open(rt, VALUES, values) {
         Ok(values) => Inputs {
             values,
             ground: None,
         },
-        Err(error) => return Ok(fail(rt, values, error)),
+        Err(error) => return Err(level.values.fail(error)),
     };
-    let Some(ground) = ground else {
-        let names = Names {
-            values,
-            ground: b"",
-        };
-        return level_parts(rt, &mut inputs, names);
-    };
-    if same(values, b"-") && same(ground, b"-") {
-        return Ok(complain(
-            rt,
-            b"razo: '",
-            values,
-            b"' can't be both VALUES and GROUND\n",
-        ));
+    if let Some(ground) = ground {
+        if values == STANDARD && ground == STANDARD {
+            return Err(complain(rt, "razo: '", values, "' can't be both VALUES and GROUND\n"));
+        }
+        match open(rt, GROUND, ground) {
+            Ok(input) => inputs.ground = Some(input),
+            Err(error) => return Err(level.ground.fail(error)),
+        }
     }
-    match open(rt, GROUND, ground) {
-        Ok(input) => inputs.ground = Some(input),
-        Err(error) => return Ok(fail(rt, ground, error)),
-    }
-    level_parts(rt, &mut inputs, Names { values, ground })
+    level.scan_parts(&mut inputs)
 }

@@ -1,185 +1,153 @@
 // What a run answers, in lines.
-use crate::reason::reason;
-use crate::status::{FOUND, WELL};
-use crate::system::Streams;
-use crate::text::{count_set, first, put_form, write_out};
-use checked::refusal::Refusal;
+use crate::reason::Reason;
+use crate::status::Status;
+use crate::text::{count_set, first};
+use checked::refusal::{Refusal, RefusedAt};
 use checked::types::Checked64;
-use lines::put::{number, word};
-use recipe::types::{Answer, Run};
-use std::io;
-use steps::types::{Logarithm, Phase, Power};
+use recipe::types::Run;
+use std::fmt;
+use std::fmt::Display;
+use steps::types::Phase;
 
-fn put_value(line: &mut [u8], at: usize, value: Checked64) -> usize {
-    match value {
-        Checked64::Fits(n) => number(line, at, n),
-        Checked64::Overflowed => word(line, at, b"overflowed"),
+// A number, or that it is overflowed.
+#[derive(Clone, Copy)]
+struct Value(Checked64);
+
+impl Display for Value {
+    fn fmt<W: fmt::Write>(&self, f: &mut fmt::Formatter<W>) -> fmt::Result {
+        match self.0 {
+            Checked64::Fits(n) => write!(f, "{n}"),
+            Checked64::Overflowed => write!(f, "overflowed"),
+        }
     }
-}
-
-// A value with its name before it.
-fn put_named(line: &mut [u8], from: usize, name: &[u8], value: Checked64) -> usize {
-    let at = word(line, from, name);
-    put_value(line, at, value)
-}
-
-// The end of a line, and a line with the steps.
-fn put_steps(line: &mut [u8], at: usize, steps: u64) -> usize {
-    put_form(line, at, b"\nsteps: #\n", &[steps])
-}
-
-fn put_answer(line: &mut [u8], value: Checked64, steps: u64) -> usize {
-    let at = put_named(line, 0, b"answer: ", value);
-    put_steps(line, at, steps)
 }
 
 // Where a recipe was refused: at an item, at its end, or as a whole.
-fn put_place(line: &mut [u8], at: usize, refusal: Refusal, place: u64) -> usize {
-    match refusal {
-        Refusal::UnknownWidth | Refusal::LengthsDiffer | Refusal::ItemCount => at,
-        Refusal::SeveralLeft | Refusal::NoneLeft => put_form(line, at, b" after # items", &[place]),
-        _ => put_form(line, at, b" at item #", &[place]),
+#[derive(Clone, Copy)]
+struct Place(RefusedAt);
+
+impl Display for Place {
+    fn fmt<W: fmt::Write>(&self, f: &mut fmt::Formatter<W>) -> fmt::Result {
+        let place = self.0.place;
+        match self.0.refusal {
+            Refusal::UnknownWidth | Refusal::LengthsDiffer | Refusal::ItemCount => Ok(()),
+            Refusal::SeveralLeft | Refusal::NoneLeft => write!(f, " after {place} items"),
+            _ => write!(f, " at item {place}"),
+        }
     }
-}
-
-fn put_refused(line: &mut [u8], refusal: Refusal, place: u64, steps: u64) -> usize {
-    let mut at = word(line, 0, b"refused: ");
-    at = reason(line, at, refusal);
-    at = put_place(line, at, refusal, place);
-    put_steps(line, at, steps)
-}
-
-// What a has more than b.
-fn more(a: u64, b: u64) -> u64 {
-    a.saturating_sub(b)
-}
-
-// How many values are on hand after the items done: each literal added one, and each operation took one away. Within a
-// power or a logarithm its two operands have left too.
-fn held_after(kinds: &[u8], done: u64, phase: Phase) -> u64 {
-    let operations = count_set(first(kinds, done as usize));
-    let literals = more(done, operations);
-    let held = more(literals, operations);
-    match phase {
-        Phase::Between => held,
-        _ => more(held, 2),
-    }
-}
-
-fn put_hand_place(line: &mut [u8], at: usize, n: u64, mark: u8) -> usize {
-    if mark == 0 {
-        return put_form(line, at, b" #", &[n]);
-    }
-    word(line, at, b" overflowed")
 }
 
 // The places in use, from the bottom up.
-fn put_places(
-    line: &mut [u8],
-    from: usize,
-    numbers: &[u64; 32],
-    marks: &[u8; 32],
-    held: u64,
-) -> usize {
-    let mut at = from;
-    for i in 0..32 {
-        if held <= i as u64 {
-            return at;
+#[derive(Clone, Copy)]
+struct Hand<'a> {
+    numbers: &'a [u64],
+    marks: &'a [u8],
+}
+
+impl Display for Hand<'_> {
+    fn fmt<W: fmt::Write>(&self, f: &mut fmt::Formatter<W>) -> fmt::Result {
+        if self.numbers.is_empty() {
+            return write!(f, " empty");
         }
-        at = put_hand_place(line, at, numbers[i], marks[i]);
-    }
-    at
-}
-
-fn put_hand(
-    line: &mut [u8],
-    from: usize,
-    numbers: &[u64; 32],
-    marks: &[u8; 32],
-    held: u64,
-) -> usize {
-    if held == 0 {
-        return word(line, from, b"hand: empty\n");
-    }
-    let mut at = word(line, from, b"hand:");
-    at = put_places(line, at, numbers, marks, held);
-    word(line, at, b"\n")
-}
-
-fn put_power(line: &mut [u8], from: usize, power: Power) -> usize {
-    let first = power.first;
-    let second = power.second;
-    let mut at = put_named(line, from, b"phase: within a power: first ", first);
-    at = put_named(line, at, b", second ", second);
-    put_form(line, at, b", exponent #\n", &[power.exponent])
-}
-
-fn put_logarithm(line: &mut [u8], at: usize, logarithm: Logarithm) -> usize {
-    put_form(
-        line,
-        at,
-        b"phase: within a logarithm: base #, left #, count #\n",
-        &[logarithm.base, logarithm.left, logarithm.count],
-    )
-}
-
-fn put_phase(line: &mut [u8], at: usize, phase: Phase) -> usize {
-    match phase {
-        Phase::Between => word(line, at, b"phase: between items\n"),
-        Phase::InPower(power) => put_power(line, at, power),
-        Phase::InLogarithm(logarithm) => put_logarithm(line, at, logarithm),
+        for (number, mark) in self.numbers.iter().zip(self.marks) {
+            if *mark == 0 {
+                write!(f, " {number}")?;
+            } else {
+                write!(f, " overflowed")?;
+            }
+        }
+        Ok(())
     }
 }
 
-// How far the allowance went.
-fn put_spent(line: &mut [u8], steps: u64, done: u64) -> usize {
-    let mut at = word(line, 0, b"stopped: ");
-    at = reason(line, at, Refusal::AllowanceSpent);
-    at = put_steps(line, at, steps);
-    put_form(line, at, b"items done: #\n", &[done])
-}
+// What a run is at between two steps.
+#[derive(Clone, Copy)]
+struct At(Phase);
 
-// The state where the allowance was spent.
-fn put_stopped(line: &mut [u8], run: Run, kinds: &[u8]) -> usize {
-    let phase = run.phase;
-    let numbers = run.numbers;
-    let marks = run.marks;
-    let held = held_after(kinds, run.done, phase);
-    let mut at = put_spent(line, run.steps, run.done);
-    at = put_hand(line, at, &numbers, &marks, held);
-    put_phase(line, at, phase)
-}
-
-fn put_run(line: &mut [u8], run: Run, kinds: &[u8]) -> usize {
-    let answer = run.answer;
-    match answer {
-        Answer::Value(value) => put_answer(line, value, run.steps),
-        Answer::Refused(refusal, place) => match refusal {
-            Refusal::AllowanceSpent => put_stopped(line, run, kinds),
-            _ => put_refused(line, refusal, place, run.steps),
-        },
+impl Display for At {
+    fn fmt<W: fmt::Write>(&self, f: &mut fmt::Formatter<W>) -> fmt::Result {
+        match self.0 {
+            Phase::Between => write!(f, "between items"),
+            Phase::InPower(power) => {
+                let first = Value(power.first);
+                let second = Value(power.second);
+                let exponent = power.exponent;
+                write!(
+                    f,
+                    "within a power: first {first}, second {second}, exponent {exponent}"
+                )
+            }
+            Phase::InLogarithm(logarithm) => {
+                let base = logarithm.base;
+                let left = logarithm.left;
+                let count = logarithm.count;
+                write!(
+                    f,
+                    "within a logarithm: base {base}, left {left}, count {count}"
+                )
+            }
+        }
     }
 }
 
-fn status_of_value(value: Checked64) -> u8 {
-    match value {
-        Checked64::Fits(_) => WELL,
-        Checked64::Overflowed => FOUND,
+// A run of the recipe with these kinds.
+#[derive(Clone, Copy)]
+pub(crate) struct Shown<'a> {
+    pub(crate) run: Run,
+    pub(crate) kinds: &'a [u8],
+}
+
+impl Shown<'_> {
+    pub(crate) fn status(&self) -> Status {
+        match self.run.answer {
+            Ok(Checked64::Fits(_)) => Status::Well,
+            Ok(Checked64::Overflowed) | Err(_) => Status::Found,
+        }
+    }
+
+    // How many values are on hand after the items done: each literal added one, and each operation took one away. Within a
+    // power or a logarithm its two operands have left too.
+    fn held(&self) -> u64 {
+        let done = self.run.done;
+        let operations = count_set(first(self.kinds, done as usize));
+        let literals = done.saturating_sub(operations);
+        let held = literals.saturating_sub(operations);
+        match self.run.phase {
+            Phase::Between => held,
+            _ => held.saturating_sub(2),
+        }
+    }
+
+    // The state where the allowance was spent.
+    fn write_state<W: fmt::Write>(&self, f: &mut fmt::Formatter<W>) -> fmt::Result {
+        let done = self.run.done;
+        let held = self.held().min(32) as usize;
+        let hand = Hand {
+            numbers: &self.run.numbers[..held],
+            marks: &self.run.marks[..held],
+        };
+        let phase = At(self.run.phase);
+        write!(f, "items done: {done}\nhand:{hand}\nphase: {phase}\n")
     }
 }
 
-fn status_of(answer: Answer) -> u8 {
-    match answer {
-        Answer::Value(value) => status_of_value(value),
-        Answer::Refused(_, _) => FOUND,
+impl Display for Shown<'_> {
+    fn fmt<W: fmt::Write>(&self, f: &mut fmt::Formatter<W>) -> fmt::Result {
+        let steps = self.run.steps;
+        match self.run.answer {
+            Ok(value) => {
+                let value = Value(value);
+                write!(f, "answer: {value}\nsteps: {steps}\n")
+            }
+            Err(refused) => {
+                let reason = Reason(refused.refusal);
+                if refused.refusal == Refusal::AllowanceSpent {
+                    write!(f, "stopped: {reason}\nsteps: {steps}\n")?;
+                    return self.write_state(f);
+                }
+                let place = Place(refused);
+                write!(f, "refused: {reason}{place}\nsteps: {steps}\n")
+            }
+        }
     }
-}
-
-// The run of the recipe whose kinds are lent. It gives the status.
-pub(crate) fn show(rt: &impl Streams, run: Run, kinds: &[u8]) -> io::Result<u8> {
-    let answer = run.answer;
-    let mut line = [0u8; 4096];
-    let at = put_run(&mut line, run, kinds);
-    write_out(rt, &line, at)?;
-    Ok(status_of(answer))
 }

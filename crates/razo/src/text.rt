@@ -1,30 +1,28 @@
-// Words that are compared, and lines that are made and written out.
-use crate::status::WRONG;
-use crate::system::Streams;
-use lines::put::{number, word};
-use std::io;
-use std::io::Write;
+// What is written out: lines that tell of a file, and complaints.
+use crate::line::Line;
+use crate::status::{Status, Stop};
+use crate::system::{Streams, System};
+use std::fmt::{Display, InlineText};
+use std::{fmt, io};
 
 // As long as a word of the command line may be.
 pub(crate) const LONGEST_WORD: usize = 4096;
 
-// Whether two words are the same.
-pub(crate) fn same(a: &[u8], b: &[u8]) -> bool {
-    a == b
-}
+// How much of a word that is too long is shown.
+const SHOWN: usize = 32;
+
+// There is room for a file's name and a word of the file.
+const COMPLAINT: usize = 8704;
+
+// There is room for a file's name and a line that tells of the file.
+const NAMED_LINE: usize = 4608;
+
+// A line that tells of a file, without the file's name.
+const LINE: usize = 256;
 
 // The first n bytes, or all of them where there are fewer.
 pub(crate) fn first(bytes: &[u8], n: usize) -> &[u8] {
-    if n < bytes.len() { &bytes[..n] } else { bytes }
-}
-
-// The bytes after the first n.
-pub(crate) fn after(bytes: &[u8], n: usize) -> &[u8] {
-    if n < bytes.len() {
-        &bytes[n..]
-    } else {
-        &bytes[..0]
-    }
+    bytes.get(..n).unwrap_or(bytes)
 }
 
 // How many bytes are not 0: marks that are set, or kinds that are operations.
@@ -32,128 +30,147 @@ pub(crate) fn count_set(bytes: &[u8]) -> u64 {
     bytes.iter().filter(|byte| **byte != 0).count() as u64
 }
 
-// One byte of a form: itself, or for '#' the number.
-fn put_piece(line: &mut [u8], at: usize, byte: u8, n: u64) -> usize {
-    if byte == b'#' {
-        return number(line, at, n);
-    }
-    word(line, at, &[byte])
+// One line on standard error: a word that is wrong, with what stands before and after it.
+pub(crate) fn complain(
+    rt: &impl Streams,
+    before: impl Display + Drop,
+    said: &[u8],
+    behind: impl Display + Drop,
+) -> Stop {
+    let mut line = Line::<COMPLAINT>::new();
+    line.show(before);
+    line.put(said);
+    line.show(behind);
+    tell(rt, &line)
 }
 
-// A text with a number in the place of each '#', or 0 where the list has no more.
-pub(crate) fn put_form(line: &mut [u8], from: usize, form: &[u8], numbers: &[u64]) -> usize {
-    let mut at = from;
-    let mut left = numbers;
-    for byte in form {
-        let n = left.first().copied().unwrap_or(0);
-        at = put_piece(line, at, *byte, n);
-        if *byte == b'#' {
-            left = left.get(1..).unwrap_or(left);
+fn tell(rt: &impl Streams, line: &Line<COMPLAINT>) -> Stop {
+    let _ = rt.write_error(line.as_bytes());
+    Stop::Ended(Status::Wrong)
+}
+
+// What is behind the beginning of a word that no place here holds.
+pub(crate) const TOO_LONG: &str = "'.. is too long: words have at most 4096 bytes\n";
+
+// Such a word is shown by its first bytes.
+pub(crate) fn shortened(said: &[u8]) -> &[u8] {
+    first(said, SHOWN)
+}
+
+// The word of the command line at an index, in the space that is lent. A complaint about it begins with `before`.
+pub(crate) fn word_at<'a>(
+    rt: &impl System,
+    index: usize,
+    space: &'a mut [u8; LONGEST_WORD],
+    before: impl Display + Drop,
+) -> Result<&'a [u8], Stop> {
+    match rt.arg(index, space) {
+        Ok(length) => Ok(first(space, length)),
+        Err(_) => Err(complain(rt, before, shortened(space), TOO_LONG)),
+    }
+}
+
+// Longer than any text that the system has for an error.
+const LONGEST_CAUSE: usize = 128;
+
+// The system's text for an error, without the error's number, which std puts after it.
+#[derive(Clone, Copy)]
+struct Cause(io::Error);
+
+impl Display for Cause {
+    fn fmt<W: fmt::Write>(&self, f: &mut fmt::Formatter<W>) -> fmt::Result {
+        let text = InlineText::<LONGEST_CAUSE>::of(self.0);
+        let text = text.as_str();
+        match text.split_once(" (os error ") {
+            Some((cause, _)) => f.write_str(cause),
+            None => f.write_str(text),
         }
     }
-    at
 }
 
-// Writes the first n bytes of the lines to standard output.
-pub(crate) fn write_out(rt: &impl Streams, lines: &[u8], n: usize) -> io::Result<()> {
-    rt.write_all(first(lines, n))
-}
+// So many blocks.
+#[derive(Clone, Copy)]
+pub(crate) struct Blocks(pub(crate) u64);
 
-// Writes a line behind a file's name. It goes out at once, so that programs that write to one pipe don't cut each
-// other's lines.
-fn write_behind(rt: &impl Streams, name: &[u8], line: &[u8]) -> io::Result<()> {
-    let mut whole = [0u8; 4608];
-    let mut at = word(&mut whole, 0, name);
-    at = word(&mut whole, at, b":");
-    at = word(&mut whole, at, line);
-    write_out(rt, &whole, at)
-}
-
-// Writes each of the lines behind a file's name.
-fn write_named(rt: &impl Streams, name: &[u8], lines: &[u8]) -> io::Result<()> {
-    for line in lines.split_inclusive(|byte| *byte == b'\n') {
-        write_behind(rt, name, line)?;
+impl Display for Blocks {
+    fn fmt<W: fmt::Write>(&self, f: &mut fmt::Formatter<W>) -> fmt::Result {
+        match self.0 {
+            1 => write!(f, "1 block"),
+            count => write!(f, "{count} blocks"),
+        }
     }
-    Ok(())
 }
 
-// Writes the first n bytes of the lines that tell of a file to standard output. Where there are several files, they are
-// named.
-pub(crate) fn write_lines(
-    rt: &impl Streams,
-    name: &[u8],
-    named: bool,
-    lines: &[u8],
-    n: usize,
-) -> io::Result<()> {
-    if named {
-        return write_named(rt, name, first(lines, n));
+// Where the lines that tell of a file go: to standard output, behind the file's name where there are several files.
+#[derive(Drop)]
+pub(crate) struct Report<'a, R> {
+    pub(crate) rt: &'a R,
+    pub(crate) name: &'a [u8],
+    pub(crate) named: bool,
+}
+
+impl<'a, R: Streams> Report<'a, R> {
+    // Of a file that is the only one.
+    pub(crate) fn new(rt: &'a R, name: &'a [u8]) -> Self {
+        Report {
+            rt,
+            name,
+            named: false,
+        }
     }
-    write_out(rt, lines, n)
-}
 
-// Writes one line that tells of a file, a form with its numbers.
-pub(crate) fn say(
-    rt: &impl Streams,
-    name: &[u8],
-    named: bool,
-    form: &[u8],
-    numbers: &[u64],
-) -> io::Result<()> {
-    let mut line = [0u8; 256];
-    let at = put_form(&mut line, 0, form, numbers);
-    write_lines(rt, name, named, &line, at)
-}
+    // A line behind the file's name. It goes out at once, so that programs that write to one pipe don't cut each other's
+    // lines.
+    fn write_behind(&self, line: &[u8]) -> io::Result<()> {
+        let mut whole = Line::<NAMED_LINE>::new();
+        whole.put(self.name);
+        whole.put(b":");
+        whole.put(line);
+        self.rt.write_all(whole.as_bytes())
+    }
 
-// One line on standard error: a word that is wrong, with what stands before and after it. It gives the status. There is
-// room for a file's name and a word of the file.
-pub(crate) fn complain(rt: &impl Streams, before: &[u8], said: &[u8], behind: &[u8]) -> u8 {
-    let mut line = [0u8; 8704];
-    let mut at = word(&mut line, 0, before);
-    at = word(&mut line, at, said);
-    at = word(&mut line, at, behind);
-    let _ = rt.write_error(first(&line, at));
-    WRONG
-}
+    // Writes the lines that tell of the file.
+    pub(crate) fn write(&self, lines: &[u8]) -> io::Result<()> {
+        if !self.named {
+            return self.rt.write_all(lines);
+        }
+        for line in lines.split_inclusive(|byte| *byte == b'\n') {
+            self.write_behind(line)?;
+        }
+        Ok(())
+    }
 
-// One line on standard error about a file: a form with its numbers, and what stands after it.
-pub(crate) fn complain_form(
-    rt: &impl Streams,
-    name: &[u8],
-    form: &[u8],
-    numbers: &[u64],
-    behind: &[u8],
-) -> u8 {
-    let mut what = [0u8; 256];
-    let mut at = put_form(&mut what, 0, form, numbers);
-    at = word(&mut what, at, behind);
-    complain(rt, b"razo: ", name, first(&what, at))
-}
+    // Writes one line that tells of the file.
+    pub(crate) fn say(&self, what: impl Display + Drop) -> io::Result<()> {
+        let mut line = Line::<LINE>::new();
+        line.show(what);
+        self.write(line.as_bytes())
+    }
 
-// A word that no place here holds is shown by its first bytes.
-pub(crate) fn complain_too_long(rt: &impl Streams, before: &[u8], said: &[u8]) -> u8 {
-    complain(
-        rt,
-        before,
-        first(said, 32),
-        b"'.. is too long: words have at most 4096 bytes\n",
-    )
-}
+    // One line on standard error about the file.
+    pub(crate) fn complain(&self, what: impl Display + Drop) -> Stop {
+        complain(self.rt, "razo: ", self.name, what)
+    }
 
-// Why a call failed. std writes the system's number behind its words, which is left out.
-fn put_error(line: &mut [u8], at: usize, error: io::Error) -> usize {
-    let mut space = [0u8; 128];
-    let _ = write!(&mut space[..], "{error}");
-    let said = str::from_utf8(&space).unwrap_or("").trim_end_matches('\0');
-    let (words, _number) = said.split_once(" (os error ").unwrap_or((said, ""));
-    word(line, at, words.as_bytes())
-}
+    // One line on standard error about a word of the file, with what stands before and after it.
+    pub(crate) fn complain_word(
+        &self,
+        before: impl Display + Drop,
+        said: &[u8],
+        behind: impl Display + Drop,
+    ) -> Stop {
+        let mut line = Line::<COMPLAINT>::new();
+        line.put(b"razo: ");
+        line.put(self.name);
+        line.show(before);
+        line.put(said);
+        line.show(behind);
+        tell(self.rt, &line)
+    }
 
-// One line on standard error: a file's name, and the system's reason why the last call on it failed. It gives the status.
-pub(crate) fn fail(rt: &impl Streams, name: &[u8], error: io::Error) -> u8 {
-    let mut why = [0u8; 160];
-    let mut at = word(&mut why, 0, b": ");
-    at = put_error(&mut why, at, error);
-    at = word(&mut why, at, b"\n");
-    complain(rt, b"razo: ", name, first(&why, at))
+    // One line on standard error: why the last call on the file failed.
+    pub(crate) fn fail(&self, error: io::Error) -> Stop {
+        let cause = Cause(error);
+        self.complain(format_args!(": {cause}\n"))
+    }
 }

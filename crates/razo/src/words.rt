@@ -1,65 +1,56 @@
 // The reading of words: numbers and the names of operations.
-use crate::lists::number_of;
-use checked::types::Checked64;
+use shape::kind::Operation;
 
-// What a word says. An operation has its kind's code.
-#[derive(Clone, Copy)]
+// The operation that a word names.
+fn operation_named(said: &[u8]) -> Option<Operation> {
+    match said {
+        b"sum" => Some(Operation::Sum),
+        b"product" => Some(Operation::Product),
+        b"quotient" => Some(Operation::Quotient),
+        b"remainder" => Some(Operation::Remainder),
+        b"power" => Some(Operation::Power),
+        b"logarithm" => Some(Operation::Logarithm),
+        _ => None,
+    }
+}
+
+// The kind that a recipe has for an operation.
+pub(crate) fn kind_of(operation: Operation) -> u8 {
+    match operation {
+        Operation::Sum => 1,
+        Operation::Product => 2,
+        Operation::Quotient => 3,
+        Operation::Remainder => 4,
+        Operation::Power => 5,
+        Operation::Logarithm => 6,
+    }
+}
+
+// What a word says.
+#[derive(Clone, Copy, Debug, PartialEq, Eq)]
 pub(crate) enum Word {
     Number(u64),
     TooLarge,
-    Operation(u8),
+    Operation(Operation),
     Neither,
 }
 
-// The kind of the operation that a word names, or 0.
-fn kind_of(said: &[u8]) -> u8 {
-    number_of(
-        said,
-        6,
-        b"sum\nproduct\nquotient\nremainder\npower\nlogarithm\n",
-    )
-}
-
 fn is_decimal(said: &[u8]) -> bool {
-    for byte in said {
-        if !byte.is_ascii_digit() {
-            return false;
-        }
-    }
-    !said.is_empty()
+    !said.is_empty() && said.iter().all(|byte| byte.is_ascii_digit())
 }
 
-// One digit more. A number that is too large for 64 bits is overflowed, as everywhere.
-fn with_digit(number: Checked64, byte: u8) -> Checked64 {
-    if byte < b'0' {
-        return number;
-    }
-    number.mul_value(10).add_value((byte - b'0') as u64)
-}
-
-// The number that decimal digits stand for.
-fn value_of(digits: &[u8]) -> Checked64 {
-    let mut number = Checked64::Fits(0);
-    for byte in digits {
-        number = with_digit(number, *byte);
-    }
-    number
-}
-
-fn operation_of(said: &[u8]) -> Word {
-    match kind_of(said) {
-        0 => Word::Neither,
-        kind => Word::Operation(kind),
-    }
+// The number that decimal digits stand for, if it is below 2^64.
+fn value_of(digits: &[u8]) -> Option<u64> {
+    digits.iter().try_fold(0u64, |number, byte| {
+        let digit = u64::from(byte.saturating_sub(b'0'));
+        number.checked_mul(10)?.checked_add(digit)
+    })
 }
 
 // Digits are looked for first: they are soon told, and a file has many numbers.
 pub(crate) fn word_of(said: &[u8]) -> Word {
     if !is_decimal(said) {
-        return operation_of(said);
+        return operation_named(said).map_or(Word::Neither, Word::Operation);
     }
-    match value_of(said) {
-        Checked64::Fits(number) => Word::Number(number),
-        Checked64::Overflowed => Word::TooLarge,
-    }
+    value_of(said).map_or(Word::TooLarge, Word::Number)
 }

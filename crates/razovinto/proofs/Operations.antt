@@ -10,7 +10,7 @@ use native.Mathlib.Decide.{dec_le, dec_lt, ℕ_discrete}
 use native.Mathlib.Omega.{arith}
 use borrow.Author.Tests.{eq-eqb, ne_eqb, lt-ltb, le-ltb}
 use Rattle.whole.specs.Logarithm.{log_of}
-use Rattle.checked.specs.declared.types.Checked64.TheVariants.{Fits, Overflowed}
+use Rattle.checked.specs.declared.types.Checked.TheVariants.{Fits, Overflowed}
 use Rattle.checked.specs.Value.{Value, limit_of, checked_of}
 use Rattle.checked.specs.Paper.{given, refused}
 use Rattle.checked.proofs.Refused.{given-code}

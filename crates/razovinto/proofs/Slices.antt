@@ -11,7 +11,7 @@ use lib.Dec.{eqb}
 use lib.ListN.{length, drop}
 use lib.Seq.{sets, length-sets, sets-eq}
 use Rattle.checked.specs.declared.refusal.Refusal.{Refusal}
-use Rattle.checked.specs.declared.types.Checked64.TheVariants.{Fits, Overflowed}
+use Rattle.checked.specs.declared.types.Checked.TheVariants.{Fits, Overflowed}
 use Rattle.checked.specs.Value.{Value}
 use Rattle.checked.specs.Paper.{Paper, given, refused, number_of}
 use Rattle.checked.proofs.Unique.{not-zero}

@@ -4,8 +4,11 @@ ghost use Rattle.checked.specs.Paper.{paper, given};
 ghost use Rattle.razovinto.specs.Entry.{returned, afterwards};
 
 use checked::refusal::Refusal;
-use checked::types::{Answer64, Checked64};
+use checked::types::Checked64;
 use store::bytes::put_long;
+
+// What an entry writes has this many bytes.
+const RESULT_LENGTH: usize = 16;
 
 // A value's number, and its mark with seven zeros, which are the mark as a number of eight bytes: each becomes one
 // store. The two cases write in another order, so that the compiler keeps each apart with its own literals.
@@ -25,25 +28,20 @@ fn put_value(res: &mut [u8], value: Checked64)
     }
 }
 
-// The answer's value is written and 0 returned, or the refusal's number.
-pub(crate) fn put_answer(res: &mut [u8], answer: Answer64) -> u32
-    requires { 16 ≤ length res.old }
+// The answer's value is written and 0 returned, or the refusal's number. A slice that is too short is refused whatever
+// the answer is.
+pub(crate) fn put_answer(res: &mut [u8], answer: Result<Checked64, Refusal>) -> u32
     ensures value { result ≡ returned (paper answer) res.old }
     ensures res_new { res.new ≡ afterwards (paper answer) res.old }
 {
+    if res.len() < RESULT_LENGTH {
+        return Refusal::ListTooShort.number();
+    }
     match answer {
-        Answer64::Value(value) => {
+        Ok(value) => {
             put_value(res, value);
             0
         }
-        Answer64::Refused(refusal) => refusal.number(),
+        Err(refusal) => refusal.number(),
     }
-}
-
-// What is returned where the slice is too short, whatever the operation would come to.
-pub(crate) fn too_short() -> u32
-    ensures { result ≡ 19 }
-{
-    let refusal = Refusal::ListTooShort;
-    refusal.number()
 }

@@ -1,13 +1,12 @@
 -- What is known of a reading by what it was seen as, and a place's fault by its mark and its reading.
 -- Assumes nothing.
-use mathlib.Core.Path.{◌≡◌, ap, ap₂, sym, ◌∙◌}
+use mathlib.Core.Path.{◌≡◌, ap, ap₂}
 use mathlib.Core.Logic.{◌⊎◌, inl, inr, ⊎_elim}
 use mathlib.Core.Bool.{true, false, cond}
 use Prim.Native.Nat.{ℕ, ◌≤◌, ◌<◌}
 use native.Mathlib.Decide.{ℕ_discrete, dec_lt}
 use native.Mathlib.Omega.{arith}
-use borrow.Author.Tests.{le-leb, lt-leb, eqb-false}
-use lib.Dec.{eqb, leb}
+use borrow.Author.Tests.{le-leb, lt-leb}
 use lib.Ieee.{Float}
 use Rattle.places.proofs.First.{holds-or-fails}
 use Rattle.reading.specs.declared.types.Reading.TheVariants.{Air, Ground, Unusable}
@@ -55,22 +54,6 @@ module _ (x : Float) (mark : ℕ) where
   unfolding fault_of
   sound-is h u = ap₂ (λ t u. cond t (cond u 0 22) 15) (le-leb mark 1 h) u
 
-  -- a usable reading's place has a fault by its mark alone, and an unusable one's has one
-  pub usable-faultless : usable x ≡ true → leb mark 1 ≡ eqb (fault_of x mark) 0
-  usable-faultless u =
-      elim (dec_lt 1 mark) [
-        | yes h ↦ lt-leb mark 1 h ∙ sym (ap (λ c. eqb c 0) (bad-mark-is h))
-        | no h ↦
-            let m : mark ≤ 1 = omega arith in le-leb mark 1 m ∙ sym (ap (λ c. eqb c 0) (sound-is m u))
-      ]
-
-  pub unusable-faulty : usable x ≡ false → false ≡ eqb (fault_of x mark) 0
-  unusable-faulty n =
-      elim (dec_lt 1 mark) [
-        | yes h ↦ sym (ap (λ c. eqb c 0) (bad-mark-is h))
-        | no h ↦ sym (ap (λ c. eqb c 0) (unusable-reading-is (omega arith) n))
-      ]
-
   -- where there is no fault the mark is 0 or 1 and the reading is usable
   pub faultless-is : fault_of x mark ≡ 0 → (mark ≤ 1) × (usable x ≡ true)
   faultless-is e =
@@ -81,14 +64,6 @@ module _ (x : Float) (mark : ℕ) where
               | inr n ↦ let b = unusable-reading-is (omega arith) n in absurd (omega arith)
               | inl u ↦ (omega arith, u)
             ]
-      ]
-
-  -- where there is one and the mark is 0 or 1, the reading isn't usable
-  pub faulty-marked : mark ≤ 1 → eqb (fault_of x mark) 0 ≡ false → usable x ≡ false
-  faulty-marked h f =
-      elim (holds-or-fails (usable x)) [
-        | inr n ↦ n
-        | inl u ↦ absurd (eqb-false (fault_of x mark) 0 f (sound-is h u))
       ]
 
   -- there is no other than 15 and 22

@@ -7,25 +7,28 @@ use Prim.Native.Nat.{ℕ, suc, ◌-◌, ◌≤◌, ◌<◌}
 use native.Mathlib.Decide.{dec_lt}
 use native.Mathlib.Omega.{arith}
 use lib.ListN.{length, get_or, drop}
-use Rattle.checked.specs.declared.types.Checked64.TheVariants.{Fits}
+use Rattle.std.specs.Prelude.{Result, Ok}
+use Rattle.checked.specs.declared.refusal.Refusal.{Refusal}
+use Rattle.checked.specs.declared.types.Checked.TheVariants.{Fits}
 use Rattle.checked.specs.Value.{Value}
-use Rattle.shape.specs.Items.{Item, Kind, literal, operation, unknown, kind_of, item_of, items}
+use Rattle.shape.specs.Items.{Operation, Item, Kind, literal, operation, unknown, kind_of, item_of, items}
 use Rattle.shape.specs.Shape.{fault_of, held_after, Good}
-use Rattle.shape.proofs.Codes.{kind_at, kind-operation, kind-unknown}
+use Rattle.shape.proofs.Codes.{kind-operation, kind_unknown}
 use Rattle.shape.proofs.Items.{items-at, length-items}
 use Rattle.shape.proofs.Shapes.{literal-good, operation-good, unknown-not-good}
 use Rattle.steps.specs.declared.types.Phase.TheVariants.{Between}
 use Rattle.steps.specs.Steps as steps
-use Rattle.recipe.specs.declared.types.Entered.{Entered}
-use Rattle.recipe.specs.declared.types.Entered.TheVariants as entered
 use Rattle.recipe.specs.declared.types.State.{State}
-use Rattle.recipe.specs.Machine.{rest, hand_of, Finishes, entered_of, Operates, AtItem, Enters}
+use Rattle.recipe.specs.Machine.{rest, Finishes, entered_of, Operates, AtItem, Enters}
 use Rattle.recipe.proofs.Going.{step-leads, landed-placed}
 use Rattle.recipe.proofs.Landing.{finished-state, finished-stands}
 
 module _
-    {M : ℕ} {ks ns : List ℕ} {held d : ℕ} {hand marks : List ℕ} (at : AtItem M ks ns held d hand marks)
+    {M : ℕ} {ks ns : List ℕ} {d : ℕ} {hand : List Value} (at : AtItem M ks ns d hand)
   where
+    abbrev held : ℕ
+    held = length hand
+
     item : Item
     item = item_of (get_or ks d 0) (get_or ns d 0)
 
@@ -46,25 +49,24 @@ module _
     unfolding item later
     good-as k e = subst GoodAs e (subst (Good M held) next at.good)
 
-    is-literal : get_or ks d 0 ≡ 0 → kind_of (get_or ks d 0) ≡ literal
-    is-literal e = ap kind_of e ∙ kind_at 0
-
-    pub good-literal : get_or ks d 0 ≡ 0 → (held < 32) × Good M (suc held) (drop (suc d) (items ks ns))
+    pub good-literal : kind_of (get_or ks d 0) ≡ literal → (held < 32) × Good M (suc held) (drop (suc d) (items ks ns))
     good-literal e =
-        let w = good-as literal (is-literal e) in
+        let w = good-as literal e in
         ((literal-good M held (get_or ns d 0) w.0).1, w.1)
 
     pub good-operation
-        : (get_or ks d 0 ≡ 0 → ⊥) →
-        (0 < get_or ks d 0) × (get_or ks d 0 < 7) × (2 ≤ held) × Good M (held - 1) (drop (suc d) (items ks ns))
-    good-operation n =
+        : (o : Operation) → kind_of (get_or ks d 0) ≡ operation o →
+        (2 ≤ held) × Good M (held - 1) (drop (suc d) (items ks ns))
+    good-operation o e =
+        let w = good-as (operation o) e in ((operation-good held (get_or ns d 0) w.0).1, w.1)
+
+    -- an item that is no literal is an operation
+    pub there-is : (get_or ks d 0 ≡ 0 → ⊥) → (o : Operation) × (kind_of (get_or ks d 0) ≡ operation o)
+    there-is n =
         let k = get_or ks d 0 in
         elim (dec_lt k 7) [
-          | yes h ↦
-              let o = kind-operation k (omega arith) h in
-              let w = good-as (operation o.0) o.1 in
-              (omega arith, h, (operation-good held (get_or ns d 0) w.0).1, w.1)
-          | no h ↦ absurd (unknown-not-good M held (get_or ns d 0) (good-as unknown (kind-unknown k (omega arith))).0)
+          | yes h ↦ kind-operation k (omega arith) h
+          | no h ↦ absurd (unknown-not-good M held (get_or ns d 0) (good-as unknown (kind_unknown k (omega arith))).0)
         ]
 
     pub few : d < 256
@@ -77,50 +79,45 @@ module _
 
     begins
         : (a t : ℕ) (hand' : List Value) (o : steps.Outcome) → t < a →
-        steps.beginning M t d (hand_of held hand marks) item.kind item later ≡ steps.landed t d hand' item later o →
-        rest M a (steps.going t d (hand_of held hand marks) Between (drop d (items ks ns)))
+        steps.beginning M t d hand item.kind item later ≡ steps.landed t d hand' item later o →
+        rest M a (steps.going t d hand Between (drop d (items ks ns)))
         ≡ rest M a (steps.landed t d hand' item later o)
     begins a t hand' o h s =
-        let H = hand_of held hand marks in
-        ap (λ xs. rest M a (steps.going t d H Between xs)) next
-        ∙ step-leads M a t d H hand' Between item later o h s
+        ap (λ xs. rest M a (steps.going t d hand Between xs)) next
+        ∙ step-leads M a t d hand hand' Between item later o h s
 
-    module _ {from : ℕ} {hand' marks' : List ℕ} where
+    module _ {from : ℕ} {hand' : List Value} where
       pub literal-enters
-          : {r : State} → get_or ks d 0 ≡ 0 →
-          Finishes held d from (Fits (get_or ns d 0)) hand marks hand' marks' r →
-          Enters M from (items ks ns) held d hand marks hand' marks' (entered.Going r)
+          : {r : State} → kind_of (get_or ks d 0) ≡ literal →
+          Finishes d from (Fits (get_or ns d 0)) hand hand' r →
+          Enters M from (items ks ns) d hand hand' (Ok r)
       unfolding item later
       literal-enters {r} e f =
           record { leads = led; ready = finished-stands f (items ks ns) M there (good-literal e).1 }
         where
           led
               : (a t : ℕ) → t < a → from ≡ suc t →
-              rest M a (steps.going t d (hand_of held hand marks) Between (drop d (items ks ns)))
-              ≡ rest M a (entered_of from d (items ks ns) hand' marks' (entered.Going r))
+              rest M a (steps.going t d hand Between (drop d (items ks ns)))
+              ≡ rest M a (entered_of from d (items ks ns) hand' (Ok r))
           led a t h n =
-              let H = hand_of held hand marks in
               let o = steps.value (Fits (get_or ns d 0)) in
-              begins a t H o h (ap (λ κ. steps.beginning M t d H κ item later) (is-literal e))
-              ∙ ap (rest M a) (landed-placed t from d H item later o n ∙ sym (finished-state f (items ks ns)))
+              begins a t hand o h (ap (λ κ. steps.beginning M t d hand κ item later) e)
+              ∙ ap (rest M a) (landed-placed t from d hand item later o n ∙ sym (finished-state f (items ks ns)))
 
       pub operation-enters
-          : {r : Entered} → (get_or ks d 0 ≡ 0 → ⊥) →
-          Operates M from (kind_of (get_or ks d 0)) held d hand marks hand' marks' r →
-          Enters M from (items ks ns) held d hand marks hand' marks' r
+          : {r : Result State Refusal} (o : Operation) → kind_of (get_or ks d 0) ≡ operation o →
+          Operates M from (kind_of (get_or ks d 0)) d hand hand' r →
+          Enters M from (items ks ns) d hand hand' r
       unfolding item later
-      operation-enters {r} z operated =
-          record { leads = led; ready = operated.ready (items ks ns) there (good-operation z).3 }
+      operation-enters {r} o e operated =
+          record { leads = led; ready = operated.ready (items ks ns) there (good-operation o e).1 }
         where
           led
               : (a t : ℕ) → t < a → from ≡ suc t →
-              rest M a (steps.going t d (hand_of held hand marks) Between (drop d (items ks ns)))
-              ≡ rest M a (entered_of from d (items ks ns) hand' marks' r)
+              rest M a (steps.going t d hand Between (drop d (items ks ns)))
+              ≡ rest M a (entered_of from d (items ks ns) hand' r)
           led a t h n =
-              let g = good-operation z in
-              let o = kind-operation (get_or ks d 0) g.0 g.1 in
-              let H = hand_of held hand marks in
-              let begun = steps.begun M o.0 (steps.top (steps.under H)) (steps.top H) in
-              begins a t (steps.under (steps.under H)) begun h
-              (ap (λ κ. steps.beginning M t d H κ item later) o.1)
-              ∙ ap (rest M a) (operated.leads t (items ks ns) item o.0 n next o.1)
+              let begun = steps.begun M o (steps.top (steps.under hand)) (steps.top hand) in
+              begins a t (steps.under (steps.under hand)) begun h
+              (ap (λ κ. steps.beginning M t d hand κ item later) e)
+              ∙ ap (rest M a) (operated.leads t (items ks ns) item o n next e)

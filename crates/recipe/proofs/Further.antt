@@ -6,21 +6,34 @@ use mathlib.Core.Logic.{inl, inr}
 use mathlib.Core.List.{List, [], ◌∷◌}
 use Prim.Native.Nat.{ℕ, suc, ◌-◌, ◌≤◌, ◌<◌}
 use native.Mathlib.Omega.{arith}
-use lib.ListN.{get_or, drop}
+use lib.ListN.{length, get_or, drop}
 use lib.Seq.{drop-cons}
 use Rattle.checked.specs.Value.{Value}
 use Rattle.shape.specs.Items.{Item, item_of}
+use Rattle.shape.specs.Shape.{Good}
 use Rattle.steps.specs.declared.types.Phase.{Phase}
 use Rattle.steps.specs.declared.types.Phase.TheVariants.{Between, InPower, InLogarithm}
 use Rattle.steps.specs.Steps as steps
 use Rattle.operation.specs.declared.types.Reached.{Reached}
-use Rattle.operation.specs.declared.types.Reached.TheVariants as reached
+use Rattle.operation.specs.declared.types.Progress.{Progress}
+use Rattle.operation.specs.declared.types.Progress.TheVariants as progress
 use Rattle.operation.specs.Work.{reach_of, work_of}
 use Rattle.operation.proofs.Sound.{sound-works, sound-goes}
 use Rattle.recipe.specs.declared.types.State.{State}
-use Rattle.recipe.specs.Machine.{hand_of, Shows, between, WithinItem, Ahead, Stands, Rests, rest, placed_as, Kept}
+use Rattle.recipe.specs.Machine.{between, WithinItem, Ahead, Stands, Rests, rest, placed_as, Kept}
 use Rattle.recipe.specs.Machine.{Finishes, Goes}
 use Rattle.recipe.proofs.Going.{GoesOn, goes-on}
+
+-- ---- what is reached
+
+abbrev valued : Value → ℕ → Reached
+valued v n = record { progress = progress.Value v; taken = n }
+
+abbrev still : Phase → ℕ → Reached
+still p n = record { progress = progress.Within p; taken = n }
+
+with-steps : (w : Reached) {p : Progress} → w.progress ≡ p → w ≡ record { progress = p; taken = w.taken }
+with-steps w e = ap (λ p. record { progress = p; taken = w.taken }) e
 
 -- ---- at work
 
@@ -64,7 +77,7 @@ Valued (steps.fails code) = ⊥
 -- what has come to its value was at work
 at-work
     : (M a : ℕ) (zs : List Item) (held d t : ℕ) (p : Phase) (w : Reached) → Ahead M zs held d p →
-    reach_of w ≡ work_of M p t a → (v : Value) (n : ℕ) → w ≡ reached.Value v n → WithinItem M zs held d p
+    reach_of w ≡ work_of M p t a → (v : Value) (n : ℕ) → w ≡ valued v n → WithinItem M zs held d p
 unfolding Valued
 at-work M a zs held d t Between w h c v n e = absurd (subst (λ w. Valued w.outcome) (sym (ap reach_of e) ∙ c) tt)
 at-work M a zs held d t (InPower p) w h c v n e = h
@@ -82,17 +95,17 @@ abbrev StillIn
     : (M a : ℕ) (zs : List Item) (held d t : ℕ) (p : Phase) (hand : List Value) (p' : Phase) (n : ℕ) → Type 0
 StillIn M a zs held d t p hand p' n =
     (rest M a (steps.going t d hand p (drop d zs)) ≡ rest M a (steps.going n d hand p' (drop d zs)))
-    × Rests M a zs (record { held = held; done = d; taken = n; phase = p' })
+    × Rests M a zs held (record { done = d; taken = n; phase = p' })
     × (t ≤ n)
     × (n ≤ a)
 
 spent
     : (M a : ℕ) (zs : List Item) (held d t : ℕ) (p : Phase) (w : Reached) (hand : List Value) →
-    WithinItem M zs held d p → t ≤ a → reach_of w ≡ work_of M p t a → (p' : Phase) (n : ℕ) → w ≡ reached.Within p' n →
+    WithinItem M zs held d p → t ≤ a → reach_of w ≡ work_of M p t a → (p' : Phase) (n : ℕ) → w ≡ still p' n →
     StillIn M a zs held d t p hand p' n
 spent M a zs held d t p w hand at h c p' n e =
-    let k = kept M a zs held d t p w hand at h c (reached.Within p' n) e in (
-      leads-to M a zs held d t p w hand at h c (reached.Within p' n) e
+    let k = kept M a zs held d t p w hand at h c (still p' n) e in (
+      leads-to M a zs held d t p w hand at h c (still p' n) e
           ∙ ap (λ xs. rest M a (steps.going n d hand p' xs)) (sym (there M a zs held d t p w hand at h c)),
       inr (k, at.more),
       omega arith,
@@ -101,7 +114,7 @@ spent M a zs held d t p w hand at h c p' n e =
 
 goes-within
     : (M a : ℕ) (zs : List Item) (held d t : ℕ) (p : Phase) (w : Reached) (hand : List Value) →
-    Ahead M zs held d p → t ≤ a → reach_of w ≡ work_of M p t a → (p' : Phase) (n : ℕ) → w ≡ reached.Within p' n →
+    Ahead M zs held d p → t ≤ a → reach_of w ≡ work_of M p t a → (p' : Phase) (n : ℕ) → w ≡ still p' n →
     StillIn M a zs held d t p hand p' n
 unfolding phase_in
 goes-within M a zs held d t Between w hand h l c p' n e =
@@ -119,46 +132,44 @@ goes-within M a zs held d t (InLogarithm q) w hand h l c p' n e =
 -- ---- the state
 
 module _
-    {M a : ℕ} {hand marks : List ℕ} {s : State} {w : Reached} (allowed : s.taken ≤ a)
+    {M a : ℕ} {hand : List Value} {s : State} {w : Reached} (allowed : s.taken ≤ a)
     (comes : reach_of w ≡ work_of M s.phase s.taken a)
   where
-    module _ {v : Value} {n : ℕ} (e : w ≡ reached.Value v n) {zs : List Item} (stands : Stands M zs hand marks s) where
-      at : WithinItem M zs s.held s.done s.phase
-      at = at-work M a zs s.held s.done s.taken s.phase w stands.ahead comes v n e
+    module _ {v : Value} (is : w.progress ≡ progress.Value v) {zs : List Item} (stands : Stands M zs hand s) where
+      at : WithinItem M zs (length hand) s.done s.phase
+      at = at-work M a zs (length hand) s.done s.taken s.phase w stands.ahead comes v w.taken (with-steps w is)
 
-      pub has-room : Shows s.held hand marks × (s.held < 32) × (s.done < 256)
-      has-room = (stands.shows, at.room, at.few)
+      pub has-room : (length hand < 32) × (s.done < 256)
+      has-room = (at.room, at.few)
 
       -- it is left with the value
       pub value-goes
-          : {hand' marks' : List ℕ} {r : State} → Finishes s.held s.done n v hand marks hand' marks' r →
-          Goes M a zs hand marks hand' marks' s r
-      value-goes {hand'} {marks'} f = subst (Goes M a zs hand marks hand' marks' s) (sym f.is) left
+          : {hand' : List Value} {r : State} → Finishes s.done w.taken v hand hand' r →
+          Goes M a zs hand hand' s r
+      value-goes {hand'} f = subst (Goes M a zs hand hand' s) (sym f.is) left
         where
-          k : (s.taken ≤ n) × (n ≤ a)
-          k = kept M a zs s.held s.done s.taken s.phase w [] at allowed comes (reached.Value v n) e
+          k : (s.taken ≤ w.taken) × (w.taken ≤ a)
+          k = kept M a zs (length hand) s.done s.taken s.phase w [] at allowed comes (valued v w.taken) (with-steps w is)
 
-          left : Goes M a zs hand marks hand' marks' s (between (suc s.held) (suc s.done) n)
+          left : Goes M a zs hand hand' s (between (suc s.done) w.taken)
           left =
-              let H = hand_of s.held hand marks in
-              let o = reached.Value v n in
+              let o = valued v w.taken in
               record {
                 leads =
-                    leads-to M a zs s.held s.done s.taken s.phase w H at allowed comes o e
-                    ∙ ap (λ h. rest M a (steps.going n (suc s.done) h Between (drop (suc s.done) zs)))
+                    leads-to M a zs (length hand) s.done s.taken s.phase w hand at allowed comes o (with-steps w is)
+                    ∙ ap (λ h. rest M a (steps.going w.taken (suc s.done) h Between (drop (suc s.done) zs)))
                     (sym f.on);
-                shows = f.shows;
-                rests = inl (refl, at.more, at.good);
+                rests = inl (refl, at.more, subst (λ h. Good M (length h) (drop (suc s.done) zs)) (sym f.on) at.good);
                 later = k.0;
                 allowed = k.1;
               }
 
     -- or the allowance is spent before
     pub phase-goes
-        : {p : Phase} {n : ℕ} → w ≡ reached.Within p n → {zs : List Item} → Stands M zs hand marks s →
-        Goes M a zs hand marks hand marks s (record { held = s.held; done = s.done; taken = n; phase = p })
-    phase-goes {p} {n} e {zs} stands =
+        : {p : Phase} → w.progress ≡ progress.Within p → {zs : List Item} → Stands M zs hand s →
+        Goes M a zs hand hand s (record { done = s.done; taken = w.taken; phase = p })
+    phase-goes {p} is {zs} stands =
         let g =
-        goes-within M a zs s.held s.done s.taken s.phase w (hand_of s.held hand marks) stands.ahead
-        allowed comes p n e in
-        record { leads = g.0; shows = stands.shows; rests = g.1; later = g.2; allowed = g.3 }
+        goes-within M a zs (length hand) s.done s.taken s.phase w hand stands.ahead
+        allowed comes p w.taken (with-steps w is) in
+        record { leads = g.0; rests = g.1; later = g.2; allowed = g.3 }

@@ -3,9 +3,10 @@
 use mathlib.Core.Path.{◌≡◌, refl, ap, ap₂, sym, ◌∙◌, subst}
 use mathlib.Core.List.{List, [], ◌∷◌}
 use Prim.Native.Nat.{ℕ, zero, suc, ◌+◌, ◌-◌, ◌≤◌, ◌<◌}
+use native.Mathlib.Numerals.{add-one}
 use native.Mathlib.Omega.{arith}
 use lib.ListN.{length, get_or, set, replicate, length-replicate}
-use Rattle.checked.specs.declared.types.Checked64.TheVariants.{Fits, Overflowed}
+use Rattle.checked.specs.declared.types.Checked.TheVariants.{Fits, Overflowed}
 use Rattle.checked.specs.Value.{Value}
 use Rattle.recipe.specs.Run.{mark_of, number_in, laid, places}
 use Rattle.recipe.specs.Machine.{value_of, hand_of, Shows}
@@ -100,3 +101,52 @@ take-shows held i numbers marks numbers' marks' e s a b =
         shows i hand numbers' marks' n (omega arith)
         (a ∙ ap₂ (λ xs k. set xs k 0) p (sym n) ∙ places-take number_in hand v m)
         (b ∙ ap₂ (λ xs k. set xs k 0) q (sym n) ∙ places-take mark_of hand v m)
+
+-- ---- a value put on the hand, and one taken from it
+
+pub pushed
+    : {held : ℕ} {numbers marks numbers' marks' : List ℕ} {hand : List Value} {v : Value} →
+    hand_of held numbers marks ≡ hand → Shows held numbers marks → length hand < 32 →
+    (numbers' ≡ set numbers held (number_in v)) × (marks' ≡ set marks held (mark_of v)) →
+    (hand_of (held + 1) numbers' marks' ≡ v ∷ hand) × Shows (held + 1) numbers' marks'
+pushed {held} {numbers} {marks} {numbers'} {marks'} {hand} {v} is s room (a, b) =
+    let n = hand-length held numbers marks in
+    let e = ap length is in
+    let w = put-shows held numbers marks numbers' marks' v s (omega arith) a b in
+    subst (λ k. (hand_of k numbers' marks' ≡ v ∷ hand) × Shows k numbers' marks') (sym (add-one held))
+    (w.0 ∙ ap (λ hand. v ∷ hand) is, w.1)
+
+pub popped
+    : {held : ℕ} {numbers marks numbers' marks' : List ℕ} {hand : List Value} {v : Value} →
+    hand_of held numbers marks ≡ hand → Shows held numbers marks → 0 < length hand →
+    v ≡ value_of (get_or numbers (held - 1) 0) (get_or marks (held - 1) 0) →
+    (numbers' ≡ set numbers (held - 1) 0) × (marks' ≡ set marks (held - 1) 0) →
+    (hand ≡ v ∷ hand_of (held - 1) numbers' marks') × Shows (held - 1) numbers' marks'
+    × (length (hand_of (held - 1) numbers' marks') < 32)
+popped {held} {numbers} {marks} {numbers'} {marks'} {hand} {v} is s some top (a, b) =
+    let n = hand-length held numbers marks in
+    let l = hand-length (held - 1) numbers' marks' in
+    let e = ap length is in
+    let most = s.0 in
+    let w = take-shows held (held - 1) numbers marks numbers' marks' (omega arith) s a b in
+    (sym is ∙ w.0 ∙ ap (λ v. v ∷ hand_of (held - 1) numbers' marks') (sym top), w.1, omega arith)
+
+-- and two, the right one first
+pub both-popped
+    : {held : ℕ} {numbers marks numbers' marks' numbers'' marks'' : List ℕ} {hand : List Value} {l r : Value} →
+    hand_of held numbers marks ≡ hand → Shows held numbers marks → 2 ≤ length hand →
+    r ≡ value_of (get_or numbers (held - 1) 0) (get_or marks (held - 1) 0) →
+    (numbers' ≡ set numbers (held - 1) 0) × (marks' ≡ set marks (held - 1) 0) →
+    l ≡ value_of (get_or numbers' (held - 2) 0) (get_or marks' (held - 2) 0) →
+    (numbers'' ≡ set numbers' (held - 2) 0) × (marks'' ≡ set marks' (held - 2) 0) →
+    (hand ≡ r ∷ l ∷ hand_of (held - 2) numbers'' marks'') × Shows (held - 2) numbers'' marks''
+    × (length (hand_of (held - 2) numbers'' marks'') < 32)
+both-popped {held} {numbers} {marks} {numbers'} {marks'} {numbers''} {marks''} {hand} {l} {r} is s two top (a, b) under (a', b') =
+    let n = hand-length held numbers marks in
+    let n' = hand-length (held - 1) numbers' marks' in
+    let n'' = hand-length (held - 2) numbers'' marks'' in
+    let e = ap length is in
+    let most = s.0 in
+    let p = popped {v = r} is s (omega arith) top (a, b) in
+    let w = take-shows (held - 1) (held - 2) numbers' marks' numbers'' marks'' (omega arith) p.1 a' b' in
+    (p.0 ∙ ap (λ hand. r ∷ hand) (w.0 ∙ ap (λ v. v ∷ hand_of (held - 2) numbers'' marks'') (sym under)), w.1, omega arith)

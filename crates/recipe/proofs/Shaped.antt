@@ -6,11 +6,10 @@ use mathlib.Core.List.{List}
 use Prim.Native.Nat.{ℕ, ◌≤◌, ◌<◌}
 use lib.Dec.{eqb}
 use lib.ListN.{length}
-use Rattle.checked.specs.declared.refusal.Refusal.{Refusal}
+use Rattle.std.specs.Prelude.{Result, Ok, Err}
+use Rattle.checked.specs.declared.refusal.RefusedAt.{RefusedAt}
 use Rattle.checked.specs.Paper.{number_of}
 use Rattle.checked.proofs.Unique.{not-zero}
-use Rattle.shape.specs.declared.types.Shape.{Shape}
-use Rattle.shape.specs.declared.types.Shape.TheVariants as shapes
 use Rattle.shape.specs.Items.{items}
 use Rattle.shape.specs.Shape.{Verdict, refused, well_formed, Good, shape_of}
 use Rattle.shape.specs.Answers.{verdict}
@@ -33,19 +32,19 @@ module _ (W : ℕ) (ks ns : List ℕ) (a : ℕ) where
 
   -- ---- by the answer of the code
 
-  module _ {s : Shape} (is : verdict s ≡ shape_of W ks ns) where
-    good : (M : ℕ) → s ≡ shapes.WellFormed M → shape_of W ks ns ≡ well_formed M
+  module _ {s : Result ℕ RefusedAt} (is : verdict s ≡ shape_of W ks ns) where
+    good : (M : ℕ) → s ≡ Ok M → shape_of W ks ns ≡ well_formed M
     good M e = sym is ∙ ap verdict e
 
-    pub good-runs : (M : ℕ) → s ≡ shapes.WellFormed M → shown (after M a (start (items ks ns))) ≡ run_of W ks ns a
+    pub good-runs : (M : ℕ) → s ≡ Ok M → shown (after M a (start (items ks ns))) ≡ run_of W ks ns a
     good-runs M e = sym (run-well-formed M (good M e))
 
     -- what a well-formed recipe brings
-    pub good-brings : (M : ℕ) → s ≡ shapes.WellFormed M → (length ks ≡ length ns) × (length ks ≤ 256) × (0 < length ks) × Good M 0 (items ks ns)
+    pub good-brings : (M : ℕ) → s ≡ Ok M → (length ks ≡ length ns) × (length ks ≤ 256) × (0 < length ks) × Good M 0 (items ks ns)
     good-brings M e =
         let w = shape-good W ks ns (ap (λ v. v.code) (good M e)) in
         let same = ap (λ v. v.limit) (sym w.5 ∙ good M e) in
         (w.1, w.3, w.2, subst (λ L. Good L 0 (items ks ns)) same w.4)
 
-    pub refusal-runs : (r : Refusal) (i : ℕ) → s ≡ shapes.Refused r i → ended (refused_at (number_of r) i) 0 ≡ run_of W ks ns a
-    refusal-runs r i e = sym (run-refused (number_of r) i (not-zero r) (sym is ∙ ap verdict e))
+    pub refusal-runs : (r : RefusedAt) → s ≡ Err r → ended (refused_at (number_of r.refusal) r.place) 0 ≡ run_of W ks ns a
+    refusal-runs r e = sym (run-refused (number_of r.refusal) r.place (not-zero r.refusal) (sym is ∙ ap verdict e))

@@ -6,31 +6,32 @@ use mathlib.Core.List.{List}
 use Prim.Native.Nat.{ℕ}
 use lib.Dec.{eqb}
 use lib.ListN.{get_or}
-use Rattle.checked.specs.declared.types.Checked64.TheVariants.{Fits, Overflowed}
+use Rattle.std.specs.Prelude.{Result, Ok, Err}
+use Rattle.checked.specs.declared.refusal.RefusedAt.{RefusedAt}
+use Rattle.checked.specs.declared.types.Checked.TheVariants.{Fits, Overflowed}
+use Rattle.checked.specs.Value.{Value}
 use Rattle.checked.specs.Paper.{Paper, value_in}
 use Rattle.checked.proofs.Unique.{one, back, gives, refuses, told-back, Told}
 use Rattle.steps.specs.declared.types.Phase.{Phase}
 use Rattle.steps.specs.declared.types.Phase.TheVariants.{Between, InPower, InLogarithm}
-use Rattle.recipe.specs.declared.types.Answer.{Answer}
-use Rattle.recipe.specs.declared.types.Answer.TheVariants as answer
 use Rattle.recipe.specs.declared.types.Run.{Run}
 use Rattle.recipe.specs.Run.{Shown, phase_numbers, answer_of, paper, run_of}
 use Rattle.recipe.specs.Machine.{value_of}
 use Rattle.recipe.proofs.Places.{value-back}
 
-abbrev answer_back : Paper → Answer
-answer_back = back (λ p. p.code) (λ p. answer.Value (value_in p)) (λ p r. answer.Refused r p.place)
+abbrev answer_back : Paper → Result Value RefusedAt
+answer_back = back (λ p. p.code) (λ p. Ok (value_in p)) (λ p r. Err (record { refusal = r; place = p.place }))
 
 answer-told
-    : (a : Answer) →
-    Told (λ p. p.code) (λ p. answer.Value (value_in p)) (λ p r. answer.Refused r p.place) answer_of a
-answer-told (answer.Value (Fits n)) = gives refl refl
-answer-told (answer.Value Overflowed) = gives refl refl
-answer-told (answer.Refused r i) = refuses r refl refl
+    : (a : Result Value RefusedAt) →
+    Told (λ p. p.code) (λ p. Ok (value_in p)) (λ p r. Err (record { refusal = r; place = p.place })) answer_of a
+answer-told (Ok (Fits n)) = gives refl refl
+answer-told (Ok Overflowed) = gives refl refl
+answer-told (Err e) = refuses e.refusal refl refl
 
-answer-back : (a : Answer) → answer_back (answer_of a) ≡ a
+answer-back : (a : Result Value RefusedAt) → answer_back (answer_of a) ≡ a
 answer-back =
-    told-back (λ p. p.code) (λ p. answer.Value (value_in p)) (λ p r. answer.Refused r p.place) answer_of answer-told
+    told-back (λ p. p.code) (λ p. Ok (value_in p)) (λ p r. Err (record { refusal = r; place = p.place })) answer_of answer-told
 
 phase_back : List ℕ → Phase
 phase_back ns =

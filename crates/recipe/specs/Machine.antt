@@ -1,8 +1,9 @@
--- How the code's parts stand for the parts of a run: its hand of numbers and marks, its state. Only contracts of
+-- How the code's parts stand for the parts of a run: its hand, its state. Only contracts of
 -- private functions speak of this; what a caller is promised is in `Run`.
 -- Assumes nothing.
-use Rattle.std.specs.Prelude.{◌≡◌, ◌⊎◌, true, cond, List, [], ◌∷◌, ℕ, zero, suc, ◌-◌, ◌≤◌, ◌<◌, eqb, length, get_or, drop}
-use Rattle.checked.specs.declared.types.Checked64.TheVariants.{Fits, Overflowed}
+use Rattle.std.specs.Prelude.{◌≡◌, ◌⊎◌, true, cond, List, [], ◌∷◌, ℕ, zero, suc, ◌-◌, ◌≤◌, ◌<◌, eqb, length, get_or, drop, Result, Ok, Err}
+use Rattle.checked.specs.declared.types.Checked.TheVariants.{Fits, Overflowed}
+use Rattle.checked.specs.declared.refusal.Refusal.{Refusal}
 use Rattle.checked.specs.Value.{Value}
 use Rattle.checked.specs.Paper.{given, number_of}
 use Rattle.shape.specs.Items.{Operation, Kind, operation, Item, items}
@@ -13,10 +14,8 @@ use Rattle.steps.specs.Steps as steps
 use Rattle.operation.specs.Work.{Reach, sound}
 use Rattle.recipe.specs.declared.types.Driven.{Driven}
 use Rattle.recipe.specs.declared.types.Driven.TheVariants as driven
-use Rattle.recipe.specs.declared.types.Entered.{Entered}
-use Rattle.recipe.specs.declared.types.Entered.TheVariants as entered
 use Rattle.recipe.specs.declared.types.State.{State}
-use Rattle.recipe.specs.Run.{Shown, mark_of, number_in, places, phase_numbers, ended, refused_at}
+use Rattle.recipe.specs.Run.{Shown, mark_of, number_in, places, ended, stopped, refused_at}
 
 -- ---- the hand
 
@@ -34,13 +33,13 @@ Shows held numbers marks =
     let hand = hand_of held numbers marks in
     (held ≤ most_on_hand) × (numbers ≡ places number_in hand) × (marks ≡ places mark_of hand)
 
--- ---- the state, with the recipe's items zs and the hand's numbers and marks
+-- ---- the state, with the recipe's items zs and the hand
 
-abbrev pub state_of : List Item → List ℕ → List ℕ → State → steps.State
-state_of zs hand marks s = steps.going s.taken s.done (hand_of s.held hand marks) s.phase (drop s.done zs)
+abbrev pub state_of : List Item → List Value → State → steps.State
+state_of zs hand s = steps.going s.taken s.done hand s.phase (drop s.done zs)
 
-abbrev pub between : (held done taken : ℕ) → State
-between held done taken = record { held = held; done = done; taken = taken; phase = Between }
+abbrev pub between : (done taken : ℕ) → State
+between done taken = record { done = done; taken = taken; phase = Between }
 
 -- an operation is at work in this phase: there is room for its value, and nothing is wrong with what comes after it
 pub record WithinItem (M : ℕ) (zs : List Item) (held d : ℕ) (p : Phase) : Type 0 where
@@ -57,14 +56,13 @@ Ahead M zs held d (InPower p) = WithinItem M zs held d (InPower p)
 Ahead M zs held d (InLogarithm q) = WithinItem M zs held d (InLogarithm q)
 
 -- after an item's first step
-pub record Stands (M : ℕ) (zs : List Item) (hand marks : List ℕ) (s : State) : Type 0 where
-  pub shows : Shows s.held hand marks
-  pub ahead : Ahead M zs s.held s.done s.phase
+pub record Stands (M : ℕ) (zs : List Item) (hand : List Value) (s : State) : Type 0 where
+  pub ahead : Ahead M zs (length hand) s.done s.phase
 
 -- between items, or still in a phase with the allowance a spent
-abbrev pub Rests : ℕ → ℕ → List Item → State → Type 0
-Rests M a zs s =
-    ((s.phase ≡ Between) × (s.done ≤ length zs) × Good M s.held (drop s.done zs))
+abbrev pub Rests : ℕ → ℕ → List Item → ℕ → State → Type 0
+Rests M a zs held s =
+    ((s.phase ≡ Between) × (s.done ≤ length zs) × Good M held (drop s.done zs))
     ⊎ ((s.taken ≡ a) × (s.done < length zs))
 
 -- ---- where the steps lead
@@ -94,71 +92,52 @@ Kept a from t (steps.fails code) = Unit {0}
 -- ---- what the code asks and promises of an item, with the hand before and after
 
 -- an item's value is put on the hand
-pub record Finishes (held d taken : ℕ) (v : Value) (hand marks hand' marks' : List ℕ) (r : State) : Type 0 where
-  pub is : r ≡ between (suc held) (suc d) taken
-  pub on : hand_of (suc held) hand' marks' ≡ v ∷ hand_of held hand marks
-  pub shows : Shows (suc held) hand' marks'
+pub record Finishes (d taken : ℕ) (v : Value) (hand hand' : List Value) (r : State) : Type 0 where
+  pub is : r ≡ between (suc d) taken
+  pub on : hand' ≡ v ∷ hand
 
 -- what item d has entered with the last of `from` steps
-abbrev pub entered_of : ℕ → ℕ → List Item → List ℕ → List ℕ → Entered → steps.State
-entered_of from d zs hand marks (entered.Going s) = state_of zs hand marks s
-entered_of from d zs hand marks (entered.Refused r) = steps.refused from d (number_of r)
+abbrev pub entered_of : ℕ → ℕ → List Item → List Value → Result State Refusal → steps.State
+entered_of from d zs hand (Ok s) = state_of zs hand s
+entered_of from d zs hand (Err r) = steps.refused from d (number_of r)
 
-abbrev pub Ready : ℕ → ℕ → List Item → List ℕ → List ℕ → Entered → Type 0
-Ready M from zs hand marks (entered.Going s) = Stands M zs hand marks s × (s.taken ≡ from)
-Ready M from zs hand marks (entered.Refused r) = Unit {0}
+abbrev pub Ready : ℕ → ℕ → List Item → List Value → Result State Refusal → Type 0
+Ready M from zs hand (Ok s) = Stands M zs hand s × (s.taken ≡ from)
+Ready M from zs hand (Err r) = Unit {0}
 
 -- an operation of the kind, item d, is begun with the last of `from` steps
-pub record Operates
-    (M from : ℕ) (k : Kind) (held d : ℕ) (hand marks hand' marks' : List ℕ) (r : Entered)
-    : Type 0
-  where
-    pub leads
-        : (t : ℕ) (zs : List Item) (x : Item) (p : Operation) → from ≡ suc t → drop d zs ≡ x ∷ drop (suc d) zs →
-        k ≡ operation p →
-        steps.operating M t d (hand_of held hand marks) p x (drop (suc d) zs) ≡ entered_of from d zs hand' marks' r
-    pub ready
-        : (zs : List Item) → d < length zs → Good M (held - 1) (drop (suc d) zs) → Ready M from zs hand' marks' r
+pub record Operates (M from : ℕ) (k : Kind) (d : ℕ) (hand hand' : List Value) (r : Result State Refusal) : Type 0 where
+  pub leads
+      : (t : ℕ) (zs : List Item) (x : Item) (p : Operation) → from ≡ suc t → drop d zs ≡ x ∷ drop (suc d) zs →
+      k ≡ operation p → steps.operating M t d hand p x (drop (suc d) zs) ≡ entered_of from d zs hand' r
+  pub ready
+      : (zs : List Item) → d < length zs → Good M (length hand - 1) (drop (suc d) zs) → Ready M from zs hand' r
 
 -- item d comes next
-pub record AtItem (M : ℕ) (ks ns : List ℕ) (held d : ℕ) (hand marks : List ℕ) : Type 0 where
+pub record AtItem (M : ℕ) (ks ns : List ℕ) (d : ℕ) (hand : List Value) : Type 0 where
   pub same : length ks ≡ length ns
   pub few : length ks ≤ most_items
   pub more : d < length ks
-  pub shown : Shows held hand marks
-  pub good : Good M held (drop d (items ks ns))
+  pub good : Good M (length hand) (drop d (items ks ns))
 
 -- item d is begun with the last of `from` steps
-pub record Enters
-    (M from : ℕ) (zs : List Item) (held d : ℕ) (hand marks hand' marks' : List ℕ) (r : Entered)
-    : Type 0
-  where
-    pub leads
-        : (a t : ℕ) → t < a → from ≡ suc t →
-        rest M a (steps.going t d (hand_of held hand marks) Between (drop d zs))
-        ≡ rest M a (entered_of from d zs hand' marks' r)
-    pub ready : Ready M from zs hand' marks' r
+pub record Enters (M from : ℕ) (zs : List Item) (d : ℕ) (hand hand' : List Value) (r : Result State Refusal) : Type 0 where
+  pub leads
+      : (a t : ℕ) → t < a → from ≡ suc t →
+      rest M a (steps.going t d hand Between (drop d zs)) ≡ rest M a (entered_of from d zs hand' r)
+  pub ready : Ready M from zs hand' r
 
 -- the state s goes on in its phase with an allowance of a
-pub record Goes (M a : ℕ) (zs : List Item) (hand marks hand' marks' : List ℕ) (s r : State) : Type 0 where
-  pub leads : rest M a (state_of zs hand marks s) ≡ rest M a (state_of zs hand' marks' r)
-  pub shows : Shows r.held hand' marks'
-  pub rests : Rests M a zs r
+pub record Goes (M a : ℕ) (zs : List Item) (hand hand' : List Value) (s r : State) : Type 0 where
+  pub leads : rest M a (state_of zs hand s) ≡ rest M a (state_of zs hand' r)
+  pub rests : Rests M a zs (length hand') r
   pub later : s.taken ≤ r.taken
   pub allowed : r.taken ≤ a
 
 -- ---- the end
 
--- what is shown where an allowance has brought a run, with the hand's numbers and marks
-abbrev pub driven_of : List ℕ → List ℕ → Driven → Shown
-driven_of hand marks (driven.Finished v t) = ended (given v) t
-driven_of hand marks (driven.Refused r i t) = ended (refused_at (number_of r) i) t
-driven_of hand marks (driven.Stopped s) =
-    record {
-      answer = refused_at 20 s.done;
-      steps = s.taken;
-      done = s.done;
-      marks = marks;
-      numbers = hand;
-      phase = phase_numbers s.phase;
-    }
+-- what is shown where an allowance has brought a run, with the hand
+abbrev pub driven_of : List Value → Driven → Shown
+driven_of hand (driven.Finished v t) = ended (given v) t
+driven_of hand (driven.Refused r i t) = ended (refused_at (number_of r) i) t
+driven_of hand (driven.Stopped s) = stopped s.taken s.done hand s.phase

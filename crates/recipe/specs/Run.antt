@@ -1,7 +1,8 @@
 -- What a run shows, in numbers: the answer, the steps taken, and where it was stopped its state.
 -- Assumes nothing.
-use Rattle.std.specs.Prelude.{◌≡◌, ◌⊎◌, true, false, List, [], ◌∷◌, ℕ, suc, ◌-◌, ◌≤◌, ◌<◌, eqb, length, get_or, replicate}
-use Rattle.checked.specs.declared.types.Checked64.TheVariants.{Fits}
+use Rattle.std.specs.Prelude.{◌≡◌, ◌⊎◌, true, false, List, [], ◌∷◌, ℕ, suc, ◌-◌, ◌≤◌, ◌<◌, eqb, length, get_or, replicate, Result, Ok, Err}
+use Rattle.checked.specs.declared.refusal.RefusedAt.{RefusedAt}
+use Rattle.checked.specs.declared.types.Checked.TheVariants.{Fits}
 use Rattle.checked.specs.Value.{Value, limit_of, checked_of}
 use Rattle.checked.specs.Paper.{Paper, given, number_of}
 use Rattle.shape.specs.Items.{Item, items}
@@ -11,8 +12,6 @@ use Rattle.meaning.specs.Count.{count}
 use Rattle.steps.specs.declared.types.Phase.{Phase}
 use Rattle.steps.specs.declared.types.Phase.TheVariants.{Between, InPower, InLogarithm}
 use Rattle.steps.specs.Steps.{State, going, refused, start, after, top}
-use Rattle.recipe.specs.declared.types.Answer.{Answer}
-use Rattle.recipe.specs.declared.types.Answer.TheVariants as answer
 use Rattle.recipe.specs.declared.types.Run.{Run}
 
 pub record Shown : Type 0 where
@@ -56,9 +55,9 @@ phase_numbers (InLogarithm q) = 2 ∷ q.base ∷ q.left ∷ q.count ∷ 0 ∷ 0 
 
 -- ---- the code's answer in numbers
 
-abbrev pub answer_of : Answer → Paper
-answer_of (answer.Value v) = given v
-answer_of (answer.Refused r place) = refused_at (number_of r) place
+abbrev pub answer_of : Result Value RefusedAt → Paper
+answer_of (Ok v) = given v
+answer_of (Err e) = refused_at (number_of e.refusal) e.place
 
 abbrev pub paper : Run → Shown
 paper r =

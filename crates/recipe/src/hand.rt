@@ -1,13 +1,95 @@
-// The hand: 32 places from the bottom up, each a number and a mark, since no array may hold enums. It stands beside the run's
-// state, so that no step copies it.
-ghost use Rattle.std.specs.Prelude.{◌≡◌, ◌<◌, get_or, set, length};
-ghost use Rattle.recipe.specs.Run.{mark_of, number_in};
+// The hand: 32 places from the bottom up, each a number and a mark, as a stopped run shows them. An array of checked
+// numbers would be twice as long to clear, and would be taken apart again for `Run`.
+ghost use Rattle.std.specs.Prelude.{◌≡◌, List, [], ◌∷◌, ◌≤◌, ◌<◌, get_or, set, length};
+ghost use Rattle.recipe.specs.Run.{mark_of, number_in, places};
 ghost use Rattle.recipe.specs.Machine.{value_of};
 
 use checked::types::Checked64;
+use std::marker::Model;
+
+// The values on hand, of which there are at most 32. A place above them is fitting 0.
+#[derive(Drop)]
+pub(crate) struct Hand {
+    numbers: [u64; 32],
+    marks: [u8; 32],
+    held: usize,
+}
+
+// The values, the top first.
+impl Model for Hand {
+    ghost use Rattle.std.specs.Prelude.{List};
+    ghost use Rattle.checked.specs.Value as checked;
+    ghost use Rattle.recipe.specs.Machine.{hand_of, Shows};
+
+    ghost Value = { List checked.Value };
+
+    ghost view = { λ h. hand_of h.held h.numbers h.marks };
+
+    ghost invariant = { λ h. Shows h.held h.numbers h.marks };
+}
+
+impl Hand {
+    pub(crate) fn new() -> Self
+        ensures { result ≡ [] }
+    {
+        Hand {
+            numbers: [0; 32],
+            marks: [0; 32],
+            held: 0,
+        }
+    }
+
+    // Puts a value on top.
+    pub(crate) fn push(&mut self, value: Checked64)
+        requires { length self.old < 32 }
+        ensures { self.new ≡ value ∷ self.old }
+    {
+        let at = self.held;
+        put(&mut self.numbers, &mut self.marks, at, value);
+        self.held = at + 1;
+    }
+
+    // Takes the top.
+    pub(crate) fn pop(&mut self) -> Checked64
+        requires { 0 < length self.old }
+        ensures value { self.old ≡ result ∷ self.new }
+        ensures room { length self.new < 32 }
+    {
+        self.held -= 1;
+        take(&mut self.numbers, &mut self.marks, self.held)
+    }
+
+    // Takes the top two, the left one from under the right. Here and in `push` the count is read once, so that it isn't
+    // waited for after a place is written.
+    pub(crate) fn operands(&mut self) -> (Checked64, Checked64)
+        requires { 2 ≤ length self.old }
+        ensures value { self.old ≡ result.1 ∷ result.0 ∷ self.new }
+        ensures room { length self.new < 32 }
+    {
+        let held = self.held;
+        let right = take(&mut self.numbers, &mut self.marks, held - 1);
+        let left = take(&mut self.numbers, &mut self.marks, held - 2);
+        self.held = held - 2;
+        (left, right)
+    }
+
+    // The places' numbers.
+    pub(crate) fn numbers(&self) -> [u64; 32]
+        ensures { result ≡ places number_in self.now }
+    {
+        self.numbers
+    }
+
+    // The places' marks.
+    pub(crate) fn marks(&self) -> [u8; 32]
+        ensures { result ≡ places mark_of self.now }
+    {
+        self.marks
+    }
+}
 
 // A place's number and mark as a checked value.
-pub(crate) fn value_of(number: u64, mark: u8) -> Checked64
+fn value_of(number: u64, mark: u8) -> Checked64
     ensures { result ≡ value_of number mark }
 {
     if mark == 0 {
@@ -17,31 +99,31 @@ pub(crate) fn value_of(number: u64, mark: u8) -> Checked64
 }
 
 // Puts a value on a place.
-pub(crate) fn put(hand: &mut [u64; 32], marks: &mut [u8; 32], at: usize, value: Checked64)
-    requires { (at < 32) × (length hand.old ≡ 32) × (length marks.old ≡ 32) }
-    ensures { (hand.new ≡ set hand.old at (number_in value)) × (marks.new ≡ set marks.old at (mark_of value)) }
+fn put(numbers: &mut [u64; 32], marks: &mut [u8; 32], at: usize, value: Checked64)
+    requires { (at < 32) × (length numbers.old ≡ 32) × (length marks.old ≡ 32) }
+    ensures { (numbers.new ≡ set numbers.old at (number_in value)) × (marks.new ≡ set marks.old at (mark_of value)) }
 {
     match value {
         Checked64::Fits(n) => {
-            hand[at] = n;
+            numbers[at] = n;
             marks[at] = 0;
         }
         Checked64::Overflowed => {
-            hand[at] = 0;
+            numbers[at] = 0;
             marks[at] = 1;
         }
     }
 }
 
 // Takes a value from its place, which is fitting 0 afterwards.
-pub(crate) fn take(hand: &mut [u64; 32], marks: &mut [u8; 32], at: usize) -> Checked64
-    requires { (at < 32) × (length hand.old ≡ 32) × (length marks.old ≡ 32) }
-    ensures value { result ≡ value_of (get_or hand.old at 0) (get_or marks.old at 0) }
-    ensures hand_new { (hand.new ≡ set hand.old at 0) × (marks.new ≡ set marks.old at 0) }
+fn take(numbers: &mut [u64; 32], marks: &mut [u8; 32], at: usize) -> Checked64
+    requires { (at < 32) × (length numbers.old ≡ 32) × (length marks.old ≡ 32) }
+    ensures value { result ≡ value_of (get_or numbers.old at 0) (get_or marks.old at 0) }
+    ensures places_new { (numbers.new ≡ set numbers.old at 0) × (marks.new ≡ set marks.old at 0) }
 {
-    let number = hand[at];
+    let number = numbers[at];
     let mark = marks[at];
-    hand[at] = 0;
+    numbers[at] = 0;
     marks[at] = 0;
     value_of(number, mark)
 }

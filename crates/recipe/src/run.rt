@@ -7,20 +7,21 @@ ghost use Rattle.recipe.specs.declared.types.Driven.TheVariants.{Stopped};
 ghost use Rattle.recipe.specs.Run.{shown, ended, answer_of, paper, run_of};
 ghost use Rattle.recipe.specs.Machine.{driven_of};
 
+use crate::hand::Hand;
 use crate::machine::drive;
-use crate::types::{Answer, Driven, Run, State};
-use checked::refusal::Refusal;
+use crate::types::{Driven, Run, State};
+use checked::refusal::{Refusal, RefusedAt};
+use checked::types::Checked64;
 use shape::shape::shape;
-use shape::types::Shape;
 use steps::types::Phase;
 
 // An answer with its steps: no items done, every place fitting 0, between items.
-fn ended(answer: Answer, steps: u64) -> Run
+fn ended(answer: Result<Checked64, RefusedAt>, steps: u64) -> Run
     ensures { paper result ≡ ended (answer_of answer) steps }
 {
     Run {
-        answer: answer,
-        steps: steps,
+        answer,
+        steps,
         done: 0,
         numbers: [0u64; 32],
         marks: [0u8; 32],
@@ -29,32 +30,28 @@ fn ended(answer: Answer, steps: u64) -> Run
 }
 
 // Stopped: 20 at the number of items wholly done.
-fn stopped(state: State, hand: [u64; 32], marks: [u8; 32]) -> Run
-    ensures { paper result ≡ driven_of hand marks (Stopped state) }
+fn stopped(state: State, hand: &Hand) -> Run
+    ensures { paper result ≡ driven_of hand.now (Stopped state) }
 {
     let done = state.done as u64;
-    let phase = state.phase;
     Run {
-        answer: Answer::Refused(Refusal::AllowanceSpent, done),
+        answer: Err(Refusal::AllowanceSpent.at(done)),
         steps: state.taken,
-        done: done,
-        numbers: hand,
-        marks: marks,
-        phase: phase,
+        done,
+        numbers: hand.numbers(),
+        marks: hand.marks(),
+        phase: state.phase,
     }
 }
 
 // Where the allowance has brought the run.
-fn conclude(driven: Driven, hand: [u64; 32], marks: [u8; 32]) -> Run
-    ensures { paper result ≡ driven_of hand marks driven }
+fn conclude(driven: Driven, hand: &Hand) -> Run
+    ensures { paper result ≡ driven_of hand.now driven }
 {
     match driven {
-        Driven::Finished(value, steps) => ended(Answer::Value(value), steps),
-        Driven::Refused(refusal, item, steps) => ended(
-            Answer::Refused(refusal, item as u64),
-            steps,
-        ),
-        Driven::Stopped(state) => stopped(state, hand, marks),
+        Driven::Finished(value, steps) => ended(Ok(value), steps),
+        Driven::Refused(refusal, item, steps) => ended(Err(refusal.at(item as u64)), steps),
+        Driven::Stopped(state) => stopped(state, hand),
     }
 }
 
@@ -64,10 +61,9 @@ fn run_good(limit: u64, kinds: &[u8], numbers: &[u64], allowance: u64) -> Run
     requires good { Good limit 0 (items kinds.now numbers.now) }
     ensures { paper result ≡ shown (after limit allowance (start (items kinds.now numbers.now))) }
 {
-    let mut hand = [0u64; 32];
-    let mut marks = [0u8; 32];
-    let driven = drive(limit, kinds, numbers, allowance, &mut hand, &mut marks);
-    conclude(driven, hand, marks)
+    let mut hand = Hand::new();
+    let driven = drive(limit, kinds, numbers, allowance, &mut hand);
+    conclude(driven, &hand)
 }
 
 // The shape is looked at whole before anything runs; then the recipe runs until it is done, refused, or out of its allowance.
@@ -75,7 +71,7 @@ pub fn run(width: u64, kinds: &[u8], numbers: &[u64], allowance: u64) -> Run
     ensures { paper result ≡ run_of width kinds.now numbers.now allowance }
 {
     match shape(width, kinds, numbers) {
-        Shape::WellFormed(limit) => run_good(limit, kinds, numbers, allowance),
-        Shape::Refused(refusal, place) => ended(Answer::Refused(refusal, place), 0),
+        Ok(limit) => run_good(limit, kinds, numbers, allowance),
+        Err(refused) => ended(Err(refused), 0),
     }
 }

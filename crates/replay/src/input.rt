@@ -1,5 +1,5 @@
 // The input in large parts: a window of bytes that were read and not yet used.
-ghost use Rattle.std.specs.Prelude.{◌≤◌, length};
+ghost use Rattle.std.specs.Prelude.{◌≤◌};
 
 use crate::failure;
 use std::io::{Read, Write};
@@ -7,74 +7,62 @@ use std::io::{Read, Write};
 // The longest case: row 12 with the thirteen bytes before its lists, and as many kinds, lefts and rights as it may have.
 const LONGEST: usize = 139277;
 
+const ROOM: usize = 262144;
+
 // The bytes from `start` up to `end` are still to be used. `is_open` says that more may come.
-#[derive(Clone, Copy)]
-pub struct Window {
-    pub start: usize,
-    pub end: usize,
-    pub is_open: bool,
-}
-
-// One read, and how many bytes it gave: 0 at the end, and where it fails.
-fn read_some<R: Read, E: Write>(reader: &mut R, tail: &mut [u8], errors: &mut E) -> usize
-    ensures { result ≤ length tail.new }
-{
-    match reader.read(tail) {
-        Ok(count) => count,
-        Err(error) => {
-            failure::tell(errors, "read", error);
-            0
-        }
-    }
-}
-
-// Reads from `end` on until the list is full or the input ends.
-fn read_from<R: Read, E: Write>(
-    reader: &mut R,
-    input: &mut [u8],
+#[derive(Drop)]
+pub struct Input<R> {
+    reader: R,
+    bytes: [u8; ROOM],
+    start: usize,
     end: usize,
-    errors: &mut E,
-) -> Window {
-    let mut next = end;
-    while next < input.len() {
-        let more = read_some(reader, &mut input[next..], errors);
-        if more == 0 {
-            return Window {
-                start: 0,
-                end: next,
-                is_open: false,
-            };
-        }
-        next += more;
-    }
-    Window {
-        start: 0,
-        end: next,
-        is_open: true,
-    }
+    is_open: bool,
+    ghost ordered: { start ≤ end },
+    ghost within: { end ≤ 262144 },
 }
 
-// A window that holds the longest case, or all that is left of the input.
-pub(crate) fn fill<R: Read, E: Write>(
-    reader: &mut R,
-    input: &mut [u8],
-    window: Window,
-    errors: &mut E,
-) -> Window {
-    let start = window.start;
-    let end = window.end;
-    if !window.is_open {
-        return window;
+impl<R: Read> Input<R> {
+    pub(crate) fn new(reader: R) -> Self {
+        Input {
+            reader,
+            bytes: [0; ROOM],
+            start: 0,
+            end: 0,
+            is_open: true,
+        }
     }
-    if end < start {
-        return window;
+
+    pub(crate) fn window(&self) -> &[u8] {
+        &self.bytes[self.start..self.end]
     }
-    if input.len() < end {
-        return window;
+
+    // What was used goes, but for so many bytes at the end of the window.
+    pub(crate) fn keep_last(&mut self, left: usize) {
+        self.start = self.end - left.min(self.end - self.start);
     }
-    if LONGEST <= end - start {
-        return window;
+
+    // Fills the window with the longest case, or with all that is left of the input.
+    pub(crate) fn fill<E: Write>(&mut self, errors: &mut E) {
+        let held = self.end - self.start;
+        if !self.is_open || LONGEST <= held {
+            return;
+        }
+        self.bytes.copy_within(self.start..self.end, 0);
+        self.start = 0;
+        self.end = held;
+        while self.end < ROOM {
+            match self.reader.read(&mut self.bytes[self.end..]) {
+                Ok(0) => {
+                    self.is_open = false;
+                    return;
+                }
+                Ok(more) => self.end += more,
+                Err(error) => {
+                    failure::tell(errors, "read", error);
+                    self.is_open = false;
+                    return;
+                }
+            }
+        }
     }
-    input.copy_within(start..end, 0);
-    read_from(reader, input, end - start, errors)
 }

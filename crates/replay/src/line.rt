@@ -1,6 +1,5 @@
 // Lines of numbers. What is put waits until little room is left for more, and is then written out. After a write that failed
 // nothing is written.
-use crate::answers;
 use lines::put;
 use std::io;
 use std::io::Write;
@@ -11,7 +10,8 @@ const MOST_WAITING: usize = 65536;
 // The longest number has 20 digits, and a space stands before it.
 const ROOM: usize = 21;
 
-// The first `at` bytes of `waiting` wait to be written out. `failure` says why a write failed, if one did.
+// The first `at` bytes of `waiting` wait to be written out. `failure` says why a write failed, if one did. std's BufWriter
+// holds its bytes on the heap, and the program uses none.
 #[derive(Drop)]
 pub struct Output<W> {
     waiting: [u8; MOST_WAITING],
@@ -20,7 +20,7 @@ pub struct Output<W> {
     failure: Option<io::Error>,
 }
 
-impl<W> Output<W> {
+impl<W: Write> Output<W> {
     pub(crate) fn new(writer: W) -> Self {
         Output {
             waiting: [0; MOST_WAITING],
@@ -33,72 +33,69 @@ impl<W> Output<W> {
     pub(crate) fn failure(&self) -> Option<io::Error> {
         self.failure
     }
-}
 
-// Writes out what waits.
-pub(crate) fn flush<W: Write>(out: &mut Output<W>) {
-    if out.failure.is_none() {
-        let end = out.at.min(MOST_WAITING);
-        let written = out.writer.write_all(&out.waiting[..end]);
-        out.failure = written.err();
+    // Writes out what waits.
+    pub(crate) fn flush(&mut self) {
+        if self.failure.is_none() {
+            let end = self.at.min(MOST_WAITING);
+            let written = self.writer.write_all(&self.waiting[..end]);
+            self.failure = written.err();
+        }
+        self.at = 0;
     }
-    out.at = 0;
-}
 
-fn make_room<W: Write>(out: &mut Output<W>) {
-    if MOST_WAITING - ROOM < out.at {
-        flush(out);
+    fn make_room(&mut self) {
+        if MOST_WAITING - ROOM < self.at {
+            self.flush();
+        }
     }
-}
 
-fn first<W: Write>(out: &mut Output<W>, n: u64) {
-    make_room(out);
-    out.at = put::number(&mut out.waiting, out.at, n);
-}
-
-// A further number, after a space.
-pub(crate) fn next<W: Write>(out: &mut Output<W>, n: u64) {
-    make_room(out);
-    out.at = put::word(&mut out.waiting, out.at, b" ");
-    out.at = put::number(&mut out.waiting, out.at, n);
-}
-
-// Further numbers.
-pub(crate) fn further<W: Write>(out: &mut Output<W>, numbers: &[u64]) {
-    for n in numbers {
-        next(out, *n);
+    fn put_word(&mut self, word: &[u8]) {
+        self.at = put::word(&mut self.waiting, self.at, word);
     }
-}
 
-// Further numbers that are bytes.
-pub(crate) fn further_bytes<W: Write>(out: &mut Output<W>, bytes: &[u8]) {
-    for byte in bytes {
-        next(out, answers::wide8(*byte));
+    fn put_number(&mut self, n: u64) {
+        self.at = put::number(&mut self.waiting, self.at, n);
     }
-}
 
-// A line's first numbers.
-pub(crate) fn start<W: Write>(out: &mut Output<W>, numbers: &[u64]) {
-    if let Some((n, rest)) = numbers.split_first() {
-        first(out, *n);
-        further(out, rest);
+    // A further number, after a space.
+    pub(crate) fn next(&mut self, n: u64) {
+        self.make_room();
+        self.put_word(b" ");
+        self.put_number(n);
     }
-}
 
-// A line's end.
-pub(crate) fn end<W: Write>(out: &mut Output<W>) {
-    make_room(out);
-    out.at = put::word(&mut out.waiting, out.at, b"\n");
-}
+    // Further numbers.
+    pub(crate) fn further<N: Copy + Into<u64>>(&mut self, numbers: &[N]) {
+        for n in numbers {
+            self.next((*n).into());
+        }
+    }
 
-// A whole line.
-pub(crate) fn whole<W: Write>(out: &mut Output<W>, numbers: &[u64]) {
-    start(out, numbers);
-    end(out);
-}
+    // A line's first numbers.
+    pub(crate) fn start(&mut self, numbers: &[u64]) {
+        if let Some((n, rest)) = numbers.split_first() {
+            self.make_room();
+            self.put_number(*n);
+            self.further(rest);
+        }
+    }
 
-// The line of a malformed case.
-pub(crate) fn malformed<W: Write>(out: &mut Output<W>) {
-    make_room(out);
-    out.at = put::word(&mut out.waiting, out.at, b"malformed\n");
+    // A line's end.
+    pub(crate) fn end(&mut self) {
+        self.make_room();
+        self.put_word(b"\n");
+    }
+
+    // A whole line.
+    pub(crate) fn whole(&mut self, numbers: &[u64]) {
+        self.start(numbers);
+        self.end();
+    }
+
+    // The line of a malformed case.
+    pub(crate) fn malformed(&mut self) {
+        self.make_room();
+        self.put_word(b"malformed\n");
+    }
 }

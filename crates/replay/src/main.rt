@@ -4,7 +4,7 @@
 #![tactic(auto)]
 
 mod answers;
-mod case_bytes;
+mod case;
 mod divisions;
 mod failure;
 mod input;
@@ -22,174 +22,73 @@ mod values;
 mod whole_rows;
 mod writes;
 
-use input::Window;
+use case::Case;
+use input::Input;
 use line::Output;
 use std::io::{Read, Write};
-use types::{Case, Fault, MOST_ELEMENTS};
+use types::{Fault, MOST_ELEMENTS};
 
-// How far the replay is: the window on the input, and whether there is more to do.
-#[derive(Clone, Copy)]
-struct State {
-    window: Window,
-    goes_on: bool,
+// The lists that cases are lent, which stay from case to case, and where their lines go.
+#[derive(Drop)]
+struct Replay<W> {
+    numbers: [u64; MOST_ELEMENTS],
+    marks: [u8; MOST_ELEMENTS],
+    out: Output<W>,
 }
 
-// A case that is lent none of the lists that stay from case to case.
-fn replay_short<W: Write>(bytes: &[u8], row: u8, out: &mut Output<W>) -> Case {
-    match row {
-        4 => searches::replay(bytes, out),
-        5 => operations::replay(bytes, out),
-        6 => divisions::replay(bytes, out),
-        7 => power_fits::replay(bytes, out),
-        8 => plain_numbers::replay(bytes, out),
-        9 => writes::replay(bytes, out),
-        10 => levels::replay_scan(bytes, out),
-        11 => levels::replay_turn(bytes, out),
-        12 => whole_rows::replay(bytes, out),
-        _ => Case::Malformed(Fault::UnknownRow),
-    }
-}
-
-// A case, by its first byte.
-fn replay_case<W: Write>(
-    bytes: &[u8],
-    numbers: &mut [u64],
-    marks: &mut [u8],
-    out: &mut Output<W>,
-) -> Case {
-    if bytes.len() == 0 {
-        return Case::Malformed(Fault::CutShort);
-    }
-    let row = bytes[0];
-    match row {
-        1 => runs::replay(bytes, numbers, out),
-        2 => scans::replay(bytes, numbers, out),
-        3 => reads::replay(bytes, numbers, marks, out),
-        _ => replay_short(bytes, row, out),
-    }
-}
-
-// Says on standard error which case is malformed, counted from 1, and why.
-fn complain<E: Write>(errors: &mut E, case: u64, fault: Fault) {
-    let _ = writeln!(errors, "replay: case {case}: {fault}");
-}
-
-// Nothing more to do: what waits is written out.
-fn finish<W: Write>(window: Window, out: &mut Output<W>) -> State {
-    line::flush(out);
-    State {
-        window,
-        goes_on: false,
-    }
-}
-
-// The window after a case, which uses no more than the window has.
-fn advance(window: Window, used: usize) -> Window {
-    let start = window.start;
-    let end = window.end;
-    if end < start {
-        return window;
-    }
-    if end - start < used {
-        return Window {
-            start: end,
-            end,
-            is_open: window.is_open,
-        };
-    }
-    Window {
-        start: start + used,
-        end,
-        is_open: window.is_open,
-    }
-}
-
-// After a case: the next one, or the end.
-fn conclude<W: Write, E: Write>(
-    answer: Case,
-    case: u64,
-    window: Window,
-    out: &mut Output<W>,
-    errors: &mut E,
-) -> State {
-    match answer {
-        Case::Answered { used } => State {
-            window: advance(window, used),
-            goes_on: out.failure().is_none(),
-        },
-        Case::Malformed(fault) => {
-            complain(errors, case, fault);
-            line::malformed(out);
-            finish(window, out)
+impl<W: Write> Replay<W> {
+    // A case, by its first byte.
+    fn replay(&mut self, case: &mut Case<'_>) -> Result<(), Fault> {
+        match case.byte()? {
+            1 => runs::replay(case, &mut self.numbers, &mut self.out),
+            2 => scans::replay(case, &mut self.numbers, &mut self.out),
+            3 => reads::replay(case, &mut self.numbers, &mut self.marks, &mut self.out),
+            4 => searches::replay(case, &mut self.out),
+            5 => operations::replay(case, &mut self.out),
+            6 => divisions::replay(case, &mut self.out),
+            7 => power_fits::replay(case, &mut self.out),
+            8 => plain_numbers::replay(case, &mut self.out),
+            9 => writes::replay(case, &mut self.out),
+            10 => levels::replay_scan(case, &mut self.out),
+            11 => levels::replay_turn(case, &mut self.out),
+            12 => whole_rows::replay(case, &mut self.out),
+            _ => Err(Fault::UnknownRow),
         }
     }
-}
 
-// The next case, or the end.
-fn next<R: Read, W: Write, E: Write>(
-    state: State,
-    case: u64,
-    reader: &mut R,
-    input: &mut [u8],
-    numbers: &mut [u64],
-    marks: &mut [u8],
-    out: &mut Output<W>,
-    errors: &mut E,
-) -> State {
-    let window = input::fill(reader, input, state.window, errors);
-    let start = window.start;
-    let end = window.end;
-    if end <= start {
-        return finish(window, out);
-    }
-    // Never so: a window lies within the input.
-    if input.len() < end {
-        return finish(window, out);
-    }
-    let answer = replay_case(&input[start..end], numbers, marks, out);
-    conclude(answer, case, window, out, errors)
-}
-
-// No input has as many cases as the loop has turns, since a proved loop has to end.
-fn replay<R: Read, W: Write, E: Write>(
-    reader: &mut R,
-    input: &mut [u8],
-    numbers: &mut [u64],
-    marks: &mut [u8],
-    out: &mut Output<W>,
-    errors: &mut E,
-) {
-    let window = Window {
-        start: 0,
-        end: 0,
-        is_open: true,
-    };
-    let mut state = State {
-        window,
-        goes_on: true,
-    };
-    for turn in 0..u64::MAX {
-        state = next(state, turn + 1, reader, input, numbers, marks, out, errors);
-        if !state.goes_on {
-            break;
+    // The cases of the input, counted from 1, up to its end, to one that is malformed or to a write that failed. No input has
+    // as many as the loop has turns, since a proved loop has to end.
+    fn replay_all<R: Read, E: Write>(&mut self, input: &mut Input<R>, errors: &mut E) {
+        for turn in 0..u64::MAX {
+            input.fill(errors);
+            let mut case = Case::new(input.window());
+            if case.left() == 0 {
+                break;
+            }
+            if let Err(fault) = self.replay(&mut case) {
+                let number = turn + 1;
+                let _ = writeln!(errors, "replay: case {number}: {fault}");
+                self.out.malformed();
+                break;
+            }
+            let left = case.left();
+            input.keep_last(left);
+            if self.out.failure().is_some() {
+                break;
+            }
         }
-    }
-    if let Some(error) = out.failure() {
-        failure::tell(errors, "write", error);
+        self.out.flush();
+        if let Some(error) = self.out.failure() {
+            failure::tell(errors, "write", error);
+        }
     }
 }
 
 fn main(rt: HostRuntime) {
-    let mut input = [0u8; 262144];
-    let mut numbers = [0u64; MOST_ELEMENTS];
-    let mut marks = [0u8; MOST_ELEMENTS];
-    let mut out = Output::new(rt.stdout());
-    replay(
-        &mut rt.stdin(),
-        &mut input,
-        &mut numbers,
-        &mut marks,
-        &mut out,
-        &mut rt.stderr(),
-    );
+    let mut replay = Replay {
+        numbers: [0; MOST_ELEMENTS],
+        marks: [0; MOST_ELEMENTS],
+        out: Output::new(rt.stdout()),
+    };
+    replay.replay_all(&mut Input::new(rt.stdin()), &mut rt.stderr());
 }

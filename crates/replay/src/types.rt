@@ -1,4 +1,4 @@
-// What a case comes to.
+// The sizes of a case's lists, and why a case is malformed.
 use std::fmt;
 
 // The most elements that a list of a case has, but for rows 9 to 12. The lists that cases are given to use have as many.
@@ -16,7 +16,7 @@ pub const NUMBER_BEFORE: u64 = 7777777;
 pub const BYTE_BEFORE: u8 = 170;
 
 // Why a case is malformed.
-#[derive(Clone, Copy)]
+#[derive(Clone, Copy, Debug, PartialEq, Eq)]
 pub enum Fault {
     // the input ends within it
     CutShort,
@@ -30,18 +30,11 @@ pub enum Fault {
 
 impl fmt::Display for Fault {
     fn fmt<W: fmt::Write>(&self, f: &mut fmt::Formatter<W>) -> fmt::Result {
-        match self {
-            Fault::CutShort => write!(f, "cut short"),
-            Fault::TooLarge => write!(f, "too large"),
-            Fault::UnknownRow => write!(f, "unknown row"),
-            Fault::NotAllowed => write!(f, "not allowed"),
-        }
+        f.write_str(match self {
+            Fault::CutShort => "cut short",
+            Fault::TooLarge => "too large",
+            Fault::UnknownRow => "unknown row",
+            Fault::NotAllowed => "not allowed",
+        })
     }
-}
-
-// A case whose line is put, with how many of its bytes were used; or why it is malformed.
-#[derive(Clone, Copy)]
-pub enum Case {
-    Answered { used: usize },
-    Malformed(Fault),
 }

@@ -2,19 +2,15 @@
 -- Assumes nothing.
 use mathlib.Core.Logic.{◌↔◌, ◌⊎◌, inl, inr}
 use mathlib.Core.Path.{◌≡◌, refl, ap, sym, ◌∙◌}
-use Prim.Native.Nat.{ℕ, ◌≤◌, ◌<◌}
+use Prim.Native.Nat.{ℕ, ◌<◌}
 use native.Mathlib.Decide.{dec_lt, ℕ_discrete}
 use native.Mathlib.Omega.{arith}
 use Rattle.shape.specs.Items.{Operation, Kind, literal, operation, unknown, kind_of}
 use Rattle.razovinto.specs.Six.{answer_of}
 use Rattle.razovinto.proofs.Operations.{code-below-3}
 use Rattle.checked.specs.Paper.{Paper, refused}
-use Rattle.shape.proofs.Codes.{kind_at, kind-operation, kind-unknown}
+use Rattle.shape.proofs.Codes.{kind_at, kind-operation, kind_unknown}
 use Rattle.rows.specs.Rows.{answer_as, element_of}
-
--- a kind from 2 on that is none of 2 to 6
-beyond-6 : (k : ℕ) → 2 ≤ k → (k ≡ 2 → ⊥) → (k ≡ 3 → ⊥) → (k ≡ 4 → ⊥) → (k ≡ 5 → ⊥) → (k ≡ 6 → ⊥) → 6 < k
-beyond-6 k a b c d e f = omega arith
 
 module _ (k l r : ℕ) where
   -- what the kind's own answer is, is the element
@@ -22,20 +18,10 @@ module _ (k l r : ℕ) where
   unfolding element_of
   element-as kind e a = a ∙ ap (λ q. answer_as q l r) (sym e)
 
-  -- kind n is this operation's, and p its answer
-  pub element-at
-      : {p : Paper} (n : ℕ) (o : Operation) → k ≡ n → kind_of n ≡ operation o → p ≡ answer_of o l r → p ≡ element_of k l r
-  element-at n o e f a = element-as (operation o) (ap kind_of e ∙ f) a
-
   -- 0 is a literal's, and there is no kind from 7 on
   pub other-kind : (k ≡ 0) ⊎ (6 < k) → element_of k l r ≡ refused 8
   other-kind (inl z) = sym (element-as literal (ap kind_of z ∙ kind_at 0) refl)
-  other-kind (inr h) = sym (element-as unknown (kind-unknown k h) refl)
-
-  -- as the code tells them apart
-  pub no-operation
-      : 2 ≤ k → (k ≡ 2 → ⊥) → (k ≡ 3 → ⊥) → (k ≡ 4 → ⊥) → (k ≡ 5 → ⊥) → (k ≡ 6 → ⊥) → element_of k l r ≡ refused 8
-  no-operation low two three four five six = other-kind (inr (beyond-6 k low two three four five six))
+  other-kind (inr h) = sym (element-as unknown (kind_unknown k h) refl)
 
   -- one of two it is: one of the six operations, or refused with 8
   pub data Known : Type 0 where

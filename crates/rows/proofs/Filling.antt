@@ -3,12 +3,12 @@
 use mathlib.Core.Path.{◌≡◌, ap, ◌∙◌}
 use mathlib.Core.List.{List}
 use Prim.Native.Nat.{ℕ, ◌+◌, ◌<◌}
-use lib.ListN.{length, set}
+use lib.ListN.{length, get_or, set}
 use Rattle.checked.specs.Paper.{Paper}
 use Rattle.rows.specs.Rows.{Operations, element_at, code_for, numbers_after, marks_after, codes_after}
-use Rattle.rows.specs.Turns.{cleared, noted}
+use Rattle.rows.specs.Turns.{cleared, kept, noted}
 use Rattle.rows.proofs.Turns.{inside, turns, enough, over-turns}
-use Rattle.rows.proofs.Noted.{Written, nothing-written, one-more, all-written, blank-long, one-noted, all-noted}
+use Rattle.rows.proofs.Noted.{kept-noted, Written, nothing-written, one-more, all-written, blank-long, one-noted, all-noted}
 
 -- what the three lists hold before turn i: marks and codes, bm and bc, were blank before the first
 pub record Filled (os : Operations) (numbers bm bc : List ℕ) (i : ℕ) (ns ms cs : List ℕ) : Type 0 where
@@ -63,6 +63,15 @@ module _ (os : Operations) (numbers marks codes : List ℕ) where
           in-codes = one-noted code_at n codes bc y c i cs cs' w.in-codes
               (s.1.1 ∙ ap (λ q. noted i q.code cs) e) h;
         }
+
+    -- the same where each place is written by itself
+    pub filled-place
+        : (i : ℕ) (ns ms cs : List ℕ) (x y z : ℕ) (p : Paper) → Filled os numbers bm bc i ns ms cs →
+        p ≡ element_at os i → i < n → x ≡ p.number → y ≡ kept p.mark (get_or ms i 0) →
+        z ≡ kept p.code (get_or cs i 0) → Filled os numbers bm bc (i + 1) (set ns i x) (set ms i y) (set cs i z)
+    filled-place i ns ms cs x y z p w e h a b d =
+        filled-turn i ns ms cs (set ns i x) (set ms i y) (set cs i z) p w e h
+        (ap (set ns i) a, (ap (set ms i) b ∙ kept-noted i p.mark ms, ap (set cs i) d ∙ kept-noted i p.code cs))
 
     -- after the last turn
     pub filled-last

@@ -2,13 +2,14 @@
 -- that aren't 0 are written.
 -- Assumes nothing.
 use mathlib.Core.Path.{◌≡◌, refl, ap, sym, ◌∙◌}
-use mathlib.Core.Bool.{cond}
+use mathlib.Core.Bool.{Bool, true, false, cond}
 use mathlib.Core.List.{List, ◌++◌}
 use Prim.Native.Nat.{ℕ, ◌+◌, ◌≤◌, ◌<◌}
 use native.Mathlib.Nat.{le_refl, zero-add}
 use native.Mathlib.Decide.{ℕ_discrete}
 use native.Mathlib.Omega.{arith}
 use borrow.Author.Tests.{eq-eqb, ne_eqb}
+use lib.Dec.{eqb}
 use lib.ListN.{length, get_or, set, drop, replicate, length-set, length-replicate, get_or-replicate}
 use lib.Seq.{drop_at, set-get_or}
 use Rattle.checked.specs.declared.refusal.Refusal.{Refusal}
@@ -21,7 +22,7 @@ use Rattle.places.proofs.Tables.{length-table, table-is, over-none, over-at, ove
 use Rattle.places.proofs.Copies.{copy-turn, copy-end}
 use Rattle.little.specs.Bytes.{put}
 use Rattle.little.proofs.Stored.{put-there}
-use Rattle.rows.specs.Turns.{cleared, noted}
+use Rattle.rows.specs.Turns.{cleared, kept, noted}
 
 -- ---- place by place
 
@@ -67,6 +68,14 @@ noting now i byte z =
           ∙ ap (set now i) (z ∙ sym e)
       | no m ↦ ap (λ t. cond t now (set now i byte)) (ne_eqb byte 0 m)
     ]
+
+-- what is kept at place i is what is noted there
+pub kept-noted : (i byte : ℕ) (bytes : List ℕ) → set bytes i (kept byte (get_or bytes i 0)) ≡ noted i byte bytes
+kept-noted i byte bytes = either (eqb byte 0)
+  where
+    either : (t : Bool) → set bytes i (cond t (get_or bytes i 0) byte) ≡ cond t bytes (set bytes i byte)
+    either true = set-get_or bytes i 0
+    either false = refl
 
 -- a value's code isn't written, and a refusal's is
 pub value-noted : (v : Value) (i : ℕ) (codes : List ℕ) → codes ≡ noted i (given v).code codes

@@ -1,6 +1,6 @@
 -- How many turns the loop of a row takes: all of its operations, or none on refusal.
 -- Assumes nothing.
-use mathlib.Core.Path.{◌≡◌, refl, ap}
+use mathlib.Core.Path.{◌≡◌, refl, ap, sym, ◌∙◌}
 use mathlib.Core.Bool.{Bool, true, false, cond}
 use mathlib.Core.List.{List}
 use Prim.Native.Nat.{ℕ, ◌≤◌, ◌<◌}
@@ -9,6 +9,9 @@ use native.Mathlib.Omega.{arith}
 use borrow.Author.Tests.{eq-eqb, ne_eqb}
 use lib.Dec.{eqb}
 use lib.ListN.{length}
+use Rattle.checked.specs.declared.refusal.Refusal.{Refusal}
+use Rattle.checked.specs.Paper.{number_of}
+use Rattle.checked.proofs.Unique.{not-zero}
 use Rattle.places.specs.Places.{over}
 use Rattle.places.proofs.Tables.{over-none}
 use Rattle.rows.specs.Rows.{Operations, code_of, code_for, after}
@@ -81,3 +84,10 @@ enough os numbers marks codes =
           let (x, y, u) = r in (omega arith, omega arith)
       | no m ↦ let none = no-turns (code_for os numbers marks codes) (length os.kinds) m in (omega arith, omega arith)
     ]
+
+-- a row that is refused leaves a list as it was
+pub stays
+    : (r : Refusal) {code : ℕ} (n : ℕ) (f : ℕ → ℕ) (old : List ℕ) → number_of r ≡ code → old ≡ after code n f old
+unfolding after
+stays r n f old e =
+    sym (ap (λ c. cond (eqb c 0) (over f n old) old) (sym e) ∙ ap (λ t. cond t (over f n old) old) (not-zero r))

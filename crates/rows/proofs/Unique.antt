@@ -4,17 +4,17 @@ use mathlib.Core.Path.{◌≡◌, refl, sym, ◌∙◌}
 use mathlib.Core.List.{List}
 use Prim.Native.Nat.{ℕ}
 use Rattle.checked.proofs.Unique.{gives, refuses, told-apart}
-use Rattle.rows.specs.declared.types.Row.{Row}
-use Rattle.rows.specs.declared.types.Row.TheVariants.{Done, Refused}
+use Rattle.std.specs.Prelude.{Result, Ok, Err}
+use Rattle.checked.specs.declared.refusal.Refusal.{Refusal}
 use Rattle.rows.specs.Rows.{Operations, Rows}
 use Rattle.rows.specs.Answers.{rowed}
 
-pub row-answer-unique : (a b : Row) → rowed a ≡ rowed b → a ≡ b
+pub row-answer-unique : (a b : Result Unit Refusal) → rowed a ≡ rowed b → a ≡ b
 row-answer-unique =
-    told-apart (λ n. n) (λ n. Done) (λ n r. Refused r) rowed
+    told-apart (λ n. n) (λ n. Ok tt) (λ n r. Err r) rowed
     (elim [
-      | Done ↦ gives refl refl
-      | Refused r ↦ refuses r refl refl
+      | Ok u ↦ gives refl refl
+      | Err r ↦ refuses r refl refl
     ])
 
 module _ (os : Operations) (numbers marks codes : List ℕ) (ns ms cs ns' ms' cs' : List ℕ) where
@@ -25,7 +25,7 @@ module _ (os : Operations) (numbers marks codes : List ℕ) (ns ms cs ns' ms' cs
   row-entry-unique r s g h = (g.0 ∙ sym h.0, g.1 ∙ sym h.1, g.2 ∙ sym h.2, g.3 ∙ sym h.3)
 
   pub row-unique
-      : (a b : Row) → Rows os numbers marks codes (rowed a) ns ms cs →
+      : (a b : Result Unit Refusal) → Rows os numbers marks codes (rowed a) ns ms cs →
       Rows os numbers marks codes (rowed b) ns' ms' cs' →
       (a ≡ b) × (ns ≡ ns') × (ms ≡ ms') × (cs ≡ cs')
   row-unique a b g h =

@@ -1,10 +1,9 @@
 -- What a row answers, in numbers: 0, or the refusal's number, whose place is 0.
 -- Assumes nothing.
-use Rattle.std.specs.Prelude.{ℕ}
+use Rattle.std.specs.Prelude.{ℕ, Result, Ok, Err}
+use Rattle.checked.specs.declared.refusal.Refusal.{Refusal}
 use Rattle.checked.specs.Paper.{number_of}
-use Rattle.rows.specs.declared.types.Row.{Row}
-use Rattle.rows.specs.declared.types.Row.TheVariants.{Done, Refused}
 
-abbrev pub rowed : Row → ℕ
-rowed Done = 0
-rowed (Refused r) = number_of r
+abbrev pub rowed : Result Unit Refusal → ℕ
+rowed (Ok u) = 0
+rowed (Err r) = number_of r

@@ -11,6 +11,10 @@ turns_of code n = cond (eqb code 0) n 0
 abbrev pub cleared : ℕ → List ℕ → List ℕ
 cleared n bytes = over (λ i. 0) n bytes
 
--- a mark or a code is written at place i where it isn't 0
+-- a mark or a code is written where it isn't 0
+abbrev pub kept : (byte old : ℕ) → ℕ
+kept byte old = cond (eqb byte 0) old byte
+
+-- and so at place i
 abbrev pub noted : (i byte : ℕ) → List ℕ → List ℕ
 noted i byte bytes = cond (eqb byte 0) bytes (set bytes i byte)

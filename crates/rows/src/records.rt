@@ -1,20 +1,39 @@
 // Rows of operation records, as a host keeps them.
 ghost use Rattle.std.specs.Prelude.{◌≡◌};
-ghost use Rattle.rows.specs.Rows.{fields, code_of, code_for, numbers_after, marks_after, codes_after};
+ghost use Rattle.rows.specs.Rows.{fields, code_for, numbers_after, marks_after, codes_after};
+ghost use Rattle.rows.specs.Answers.{rowed};
 
-use crate::row::{begin, ready, step};
-use crate::types::OperationRecord;
+use crate::row::{begin, clear, step};
+use crate::types::{OperationRecord, code};
+use checked::refusal::Refusal;
 
-// What a row of so many records returns, for lists of these lengths.
-fn code_for(records: usize, numbers: usize, marks: usize, codes: usize) -> u32
-    ensures { result ≡ code_of records records records numbers marks codes }
+// The row of the records' fields; each record is read where it lies.
+fn of_records(
+    operations: &[OperationRecord],
+    numbers: &mut [u64],
+    marks: &mut [u8],
+    codes: &mut [u8],
+) -> Result<(), Refusal>
+    ensures value { rowed result ≡
+        code_for (fields operations.now) numbers.old marks.old codes.old }
+    ensures numbers_new { numbers.new ≡
+        numbers_after (fields operations.now) numbers.old marks.old
+        codes.old }
+    ensures marks_new { marks.new ≡
+        marks_after (fields operations.now) numbers.old marks.old codes.old }
+    ensures codes_new { codes.new ≡
+        codes_after (fields operations.now) numbers.old marks.old codes.old }
 {
-    let begun = begin(records, records, records, numbers, marks, codes);
-    begun.number()
+    let count = operations.len();
+    begin(count, count, count, numbers.len(), marks.len(), codes.len())?;
+    clear(count, marks, codes);
+    for (i, operation) in operations.iter().enumerate() {
+        step(*operation, &mut numbers[i], &mut marks[i], &mut codes[i]);
+    }
+    Ok(())
 }
 
-// The row of the records' fields; each record is read where it lies. 0 is returned, or the refusal's number, whose
-// place is 0.
+// 0 is returned, or the refusal's number, whose place is 0.
 pub fn razovinto_row_of_records(
     operations: &[OperationRecord],
     numbers: &mut [u64],
@@ -31,12 +50,5 @@ pub fn razovinto_row_of_records(
     ensures codes_new { codes.new ≡
         codes_after (fields operations.now) numbers.old marks.old codes.old }
 {
-    let code = code_for(operations.len(), numbers.len(), marks.len(), codes.len());
-    let count = ready(code, operations.len(), marks, codes);
-    let mut i = 0;
-    while i < count {
-        step(operations[i], i, numbers, marks, codes);
-        i = i + 1;
-    }
-    code
+    code(of_records(operations, numbers, marks, codes))
 }

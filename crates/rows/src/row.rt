@@ -1,14 +1,14 @@
 // A row: its lists' lengths are looked at first, and then each operation is worked out by itself.
-ghost use Rattle.std.specs.Prelude.{◌≡◌, ◌≤◌, ◌<◌, length, set};
+ghost use Rattle.std.specs.Prelude.{◌≡◌, ◌≤◌, ◌<◌, length};
 ghost use Rattle.checked.specs.Paper.{paper, given};
 ghost use Rattle.rows.specs.Rows.{lists, element_of, code_of, code_for, numbers_after, marks_after, codes_after};
 ghost use Rattle.rows.specs.Answers.{rowed};
-ghost use Rattle.rows.specs.Turns.{turns_of, cleared, noted};
+ghost use Rattle.rows.specs.Turns.{cleared, kept};
 
 use crate::element::answer;
-use crate::types::{OperationRecord, Row};
+use crate::types::OperationRecord;
 use checked::refusal::Refusal;
-use checked::types::{Answer64, Checked64};
+use checked::types::Checked64;
 use store::bytes::put_zeros;
 
 // The most operations of a row.
@@ -19,6 +19,7 @@ const NO_NUMBER: u64 = 0;
 
 // Why a row of these lengths is refused, if it is: of kinds, lefts and rights, and of the lists that are to hold
 // numbers, marks and codes.
+#[tactic(auto, using(std::proofs::lemmas::Bool::Decides::nat_tests), unfolding(crate::specs::Rows::code_of))]
 pub(crate) fn begin(
     kinds: usize,
     lefts: usize,
@@ -26,112 +27,73 @@ pub(crate) fn begin(
     numbers: usize,
     marks: usize,
     codes: usize,
-) -> Row
+) -> Result<(), Refusal>
     ensures { rowed result ≡ code_of kinds lefts rights numbers marks codes }
 {
-    if kinds != lefts {
-        return Row::Refused(Refusal::LengthsDiffer);
+    if kinds != lefts || kinds != rights {
+        return Err(Refusal::LengthsDiffer);
     }
-    if kinds != rights {
-        return Row::Refused(Refusal::LengthsDiffer);
+    if kinds == 0 || MOST < kinds {
+        return Err(Refusal::ItemCount);
     }
-    if kinds == 0 {
-        return Row::Refused(Refusal::ItemCount);
+    if numbers < kinds || marks < kinds || codes < kinds {
+        return Err(Refusal::ListTooShort);
     }
-    if MOST < kinds {
-        return Row::Refused(Refusal::ItemCount);
-    }
-    if numbers < kinds {
-        return Row::Refused(Refusal::ListTooShort);
-    }
-    if marks < kinds {
-        return Row::Refused(Refusal::ListTooShort);
-    }
-    if codes < kinds {
-        return Row::Refused(Refusal::ListTooShort);
-    }
-    Row::Done
+    Ok(())
 }
 
-// How many operations are worked out: none where the row is refused. Otherwise their marks and codes are cleared first,
-// many at a time, so that an operation which fits has only its number to write.
-pub(crate) fn ready<'a>(code: u32, count: usize, marks: &'a mut [u8], codes: &'a mut [u8]) -> usize
-    requires count_in_bounds { turns_of code count ≤ length marks.old }
-    requires count_in_bounds_2 { turns_of code count ≤ length codes.old }
-    ensures value { result ≡ turns_of code count }
-    ensures marks_new { marks.new ≡ cleared (turns_of code count) marks.old }
-    ensures codes_new { codes.new ≡ cleared (turns_of code count) codes.old }
+// Marks and codes are cleared first, many at a time, so that an operation which fits has only its number to write.
+pub(crate) fn clear(count: usize, marks: &mut [u8], codes: &mut [u8])
+    requires { (count ≤ length marks.old) × (count ≤ length codes.old) }
+    ensures marks_new { marks.new ≡ cleared count marks.old }
+    ensures codes_new { codes.new ≡ cleared count codes.old }
 {
-    if code != 0 {
-        return 0;
-    }
     put_zeros(marks, 0, count);
     put_zeros(codes, 0, count);
-    count
 }
 
-// A value at place i of lists whose marks were cleared.
-fn put_value<'a>(value: Checked64, i: usize, numbers: &'a mut [u64], marks: &'a mut [u8])
-    requires i_in_bounds { i < length numbers.old }
-    requires i_in_bounds_2 { i < length marks.old }
-    ensures numbers_new { numbers.new ≡ set numbers.old i (given value).number }
-    ensures marks_new { marks.new ≡ noted i (given value).mark marks.old }
+// A value in its place, whose mark was cleared.
+fn put_value(value: Checked64, number: &mut u64, mark: &mut u8)
+    ensures number_new { number.new ≡ (given value).number }
+    ensures mark_new { mark.new ≡ kept (given value).mark mark.old }
 {
     match value {
         Checked64::Fits(n) => {
-            numbers[i] = n;
+            *number = n;
         }
         Checked64::Overflowed => {
-            numbers[i] = 0;
-            marks[i] = 1;
+            *number = 0;
+            *mark = 1;
         }
     }
 }
 
-// An answer at place i of lists whose marks and codes were cleared.
-fn put_answer<'a>(
-    answer: Answer64,
-    i: usize,
-    numbers: &'a mut [u64],
-    marks: &'a mut [u8],
-    codes: &'a mut [u8],
-)
-    requires answer_bound { (paper answer).code < 256 }
-    requires i_in_bounds { i < length numbers.old }
-    requires i_in_bounds_2 { i < length marks.old }
-    requires i_in_bounds_3 { i < length codes.old }
-    ensures numbers_new { numbers.new ≡ set numbers.old i (paper answer).number }
-    ensures marks_new { marks.new ≡ noted i (paper answer).mark marks.old }
-    ensures codes_new { codes.new ≡ noted i (paper answer).code codes.old }
+// An answer in its place, whose mark and code were cleared.
+fn put_answer(answer: Result<Checked64, Refusal>, number: &mut u64, mark: &mut u8, code: &mut u8)
+    requires { (paper answer).code < 256 }
+    ensures number_new { number.new ≡ (paper answer).number }
+    ensures mark_new { mark.new ≡ kept (paper answer).mark mark.old }
+    ensures code_new { code.new ≡ kept (paper answer).code code.old }
 {
     match answer {
-        Answer64::Value(value) => put_value(value, i, numbers, marks),
-        Answer64::Refused(refusal) => {
-            numbers[i] = NO_NUMBER;
-            codes[i] = refusal.number() as u8;
+        Ok(value) => put_value(value, number, mark),
+        Err(refusal) => {
+            *number = NO_NUMBER;
+            *code = refusal.number() as u8;
         }
     }
 }
 
-// Element i of the three lists, from its operation. Plain lists and records go through here.
-pub(crate) fn step<'a>(
-    operation: OperationRecord,
-    i: usize,
-    numbers: &'a mut [u64],
-    marks: &'a mut [u8],
-    codes: &'a mut [u8],
-)
-    requires i_in_bounds { i < length numbers.old }
-    requires i_in_bounds_2 { i < length marks.old }
-    requires i_in_bounds_3 { i < length codes.old }
-    ensures numbers_new { numbers.new ≡
-        set numbers.old i (element_of operation.kind operation.left operation.right).number }
-    ensures marks_new { marks.new ≡
-        noted i (element_of operation.kind operation.left operation.right).mark marks.old }
-    ensures codes_new { codes.new ≡
-        noted i (element_of operation.kind operation.left operation.right).code codes.old }
+// What an operation comes to, in its place of the three lists. Plain lists and records go through here.
+pub(crate) fn step(operation: OperationRecord, number: &mut u64, mark: &mut u8, code: &mut u8)
+    ensures number_new { number.new ≡
+        (element_of operation.kind operation.left operation.right).number }
+    ensures mark_new { mark.new ≡
+        kept (element_of operation.kind operation.left operation.right).mark mark.old }
+    ensures code_new { code.new ≡
+        kept (element_of operation.kind operation.left operation.right).code code.old }
 {
-    put_answer(answer(operation), i, numbers, marks, codes);
+    put_answer(answer(operation), number, mark, code);
 }
 
 // A row of plain lists: element i of each result is that of the operation of kind i on left i and right i, refused or
@@ -143,7 +105,7 @@ pub fn row(
     numbers: &mut [u64],
     marks: &mut [u8],
     codes: &mut [u8],
-) -> Row
+) -> Result<(), Refusal>
     ensures result_value { rowed result ≡
         code_for (lists kinds.now lefts.now rights.now) numbers.old
         marks.old codes.old }
@@ -157,24 +119,23 @@ pub fn row(
         codes_after (lists kinds.now lefts.now rights.now) numbers.old
         marks.old codes.old }
 {
-    let begun = begin(
-        kinds.len(),
+    let count = kinds.len();
+    begin(
+        count,
         lefts.len(),
         rights.len(),
         numbers.len(),
         marks.len(),
         codes.len(),
-    );
-    let count = ready(begun.number(), kinds.len(), marks, codes);
-    let mut i = 0;
-    while i < count {
+    )?;
+    clear(count, marks, codes);
+    for (i, kind) in kinds.iter().enumerate() {
         let operation = OperationRecord {
-            kind: kinds[i],
+            kind: *kind,
             left: lefts[i],
             right: rights[i],
         };
-        step(operation, i, numbers, marks, codes);
-        i = i + 1;
+        step(operation, &mut numbers[i], &mut marks[i], &mut codes[i]);
     }
-    begun
+    Ok(())
 }

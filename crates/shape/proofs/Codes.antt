@@ -22,6 +22,6 @@ kind-operation (suc (suc (suc (suc (suc zero))))) h l = (power, kind_at 5)
 kind-operation (suc (suc (suc (suc (suc (suc zero)))))) h l = (logarithm, kind_at 6)
 kind-operation (suc (suc (suc (suc (suc (suc (suc k))))))) h l = let f : ⊥ = omega arith in absurd f
 
-pub kind-unknown : (k : ℕ) → 7 ≤ k → kind_of k ≡ unknown
+pub kind_unknown : (k : ℕ) → 7 ≤ k → kind_of k ≡ unknown
 unfolding kind_of
-kind-unknown k h = get_or-eq_default kinds unknown h
+kind_unknown k h = get_or-eq_default kinds unknown h

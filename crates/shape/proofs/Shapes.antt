@@ -13,7 +13,6 @@ use lib.ListN.{length}
 use Rattle.checked.specs.Value.{limit_of}
 use Rattle.shape.specs.Items.{unknown, Item, items}
 use Rattle.shape.specs.Shape.{refused, well_formed, most_on_hand, literal_fault, operation_fault, fault_of, held_after, end_fault, shape_from, Good, known_width, shape_at, shape_of}
-use Rattle.shape.specs.Answers.{limit_for}
 
 -- ---- an item
 
@@ -160,24 +159,6 @@ module _ (W : ℕ) (ks ns : List ℕ) where
   pub at-known-width : known_width W ≡ true → shape_of W ks ns ≡ shape_at (limit_of W) ks ns
   unfolding shape_of
   at-known-width e = ap (λ t. cond t (shape_at (limit_of W) ks ns) (refused 5 0)) e
-
-  -- by the limit that is found for the width
-  pub at-limit-found : (M : ℕ) → well_formed M ≡ limit_for W → shape_at M ks ns ≡ shape_of W ks ns
-  unfolding limit_for
-  at-limit-found M p = by-width (known_width W) refl
-    where
-      by-width : (t : Bool) → known_width W ≡ t → shape_at M ks ns ≡ shape_of W ks ns
-      by-width true w =
-          let q = p ∙ ap (λ t. cond t (well_formed (limit_of W)) (refused 5 0)) w in ap (λ M. shape_at M ks ns) (ap (λ v. v.limit) q) ∙ sym (at-known-width w)
-      by-width false w = let q = p ∙ ap (λ t. cond t (well_formed (limit_of W)) (refused 5 0)) w in let f : ⊥ = omega (arith, ap (λ v. v.code) q) in absurd f
-
-  pub at-no-limit-found : refused 5 0 ≡ limit_for W → refused 5 0 ≡ shape_of W ks ns
-  unfolding limit_for
-  at-no-limit-found p = by-width (known_width W) refl
-    where
-      by-width : (t : Bool) → known_width W ≡ t → refused 5 0 ≡ shape_of W ks ns
-      by-width true w = let q = p ∙ ap (λ t. cond t (well_formed (limit_of W)) (refused 5 0)) w in let f : ⊥ = omega (arith, ap (λ v. v.code) q) in absurd f
-      by-width false w = sym (at-unknown-width w)
 
   pub stage : Stage W ks ns
   stage = by-width (known_width W) refl

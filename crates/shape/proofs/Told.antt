@@ -12,7 +12,7 @@ use lib.Dec.{eqb}
 use Rattle.shape.specs.Items.{Operation, Kind, literal, operation, unknown, kind_of}
 use Rattle.shape.specs.Shape.{fault_of, end_fault}
 use Rattle.shape.specs.Faults.{Operates, UnknownOrNumbered, AboveLimit, TooFewOnHand, HandFull, Faultless}
-use Rattle.shape.proofs.Codes.{kind_at, kind-operation, kind-unknown}
+use Rattle.shape.proofs.Codes.{kind_at, kind-operation, kind_unknown}
 use Rattle.shape.proofs.Shapes.{literal-above, literal-beyond-hand, literal-passes}
 use Rattle.shape.proofs.Shapes.{operation-numbered, operation-lacking, operation-passes}
 
@@ -145,7 +145,7 @@ code-of-literal c = (only, λ e. ap kind_of e ∙ kind_at 0)
                     let o = kind-operation c (omega arith) h in
                     other-kind c e o.1 (λ x. let z : ◌≡◌ {A = ℕ} 0 1 = cc in omega arith)
                 | no m ↦
-                    other-kind c e (kind-unknown c (omega arith)) (λ x. let z : ◌≡◌ {A = ℕ} 0 1 = cc in omega arith)
+                    other-kind c e (kind_unknown c (omega arith)) (λ x. let z : ◌≡◌ {A = ℕ} 0 1 = cc in omega arith)
               ]
         ]
 
@@ -160,12 +160,12 @@ code-of-operation c = (only, λ p. let h : c < 7 = omega (arith, p) in kind-oper
               elim (dec_lt c 7) [
                 | yes h ↦ (omega arith, omega arith)
                 | no m ↦
-                    other-kind c e (kind-unknown c (omega arith)) (λ x. let z : ◌≡◌ {A = ℕ} 0 1 = cc in omega arith)
+                    other-kind c e (kind_unknown c (omega arith)) (λ x. let z : ◌≡◌ {A = ℕ} 0 1 = cc in omega arith)
               ]
         ]
 
 pub code-of-unknown : (c : ℕ) → (kind_of c ≡ unknown) ↔ (6 < c)
-code-of-unknown c = (only, kind-unknown c)
+code-of-unknown c = (only, kind_unknown c)
   where
     only : kind_of c ≡ unknown → 6 < c
     only e =

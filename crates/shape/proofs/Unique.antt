@@ -1,20 +1,18 @@
 -- No two answers are the same in numbers: so the contracts leave one possible answer.
 -- Assumes nothing.
 use mathlib.Core.Path.{◌≡◌, refl}
+use Rattle.std.specs.Prelude.{ℕ, Option, Some, None, Result, Ok, Err}
 use Rattle.checked.specs.declared.refusal.Refusal.TheVariants.{UnknownWidth}
+use Rattle.checked.specs.declared.refusal.RefusedAt.{RefusedAt}
 use Rattle.checked.proofs.Unique.{gives, refuses, told-apart}
-use Rattle.shape.specs.declared.types.Limit.{Limit}
-use Rattle.shape.specs.declared.types.Limit.TheVariants.{Largest, Unknown}
-use Rattle.shape.specs.declared.types.Shape.{Shape}
-use Rattle.shape.specs.declared.types.Shape.TheVariants.{WellFormed, Refused}
 use Rattle.shape.specs.Answers.{verdict, limit_verdict}
 
-pub shape-unique : (a b : Shape) → verdict a ≡ verdict b → a ≡ b
+pub shape-unique : (a b : Result ℕ RefusedAt) → verdict a ≡ verdict b → a ≡ b
 shape-unique =
-    told-apart (λ v. v.code) (λ v. WellFormed v.limit) (λ v r. Refused r v.place) verdict
-    (elim [ WellFormed M ↦ gives refl refl | Refused r i ↦ refuses r refl refl ])
+    told-apart (λ v. v.code) (λ v. Ok v.limit) (λ v r. Err (record { refusal = r; place = v.place })) verdict
+    (elim [ Ok M ↦ gives refl refl | Err e ↦ refuses e.refusal refl refl ])
 
-pub limit-unique : (a b : Limit) → limit_verdict a ≡ limit_verdict b → a ≡ b
+pub limit-unique : (a b : Option ℕ) → limit_verdict a ≡ limit_verdict b → a ≡ b
 limit-unique =
-    told-apart (λ v. v.code) (λ v. Largest v.limit) (λ v r. Unknown) limit_verdict
-    (elim [ Largest M ↦ gives refl refl | Unknown ↦ refuses UnknownWidth refl refl ])
+    told-apart (λ v. v.code) (λ v. Some v.limit) (λ v r. None) limit_verdict
+    (elim [ Some M ↦ gives refl refl | None ↦ refuses UnknownWidth refl refl ])

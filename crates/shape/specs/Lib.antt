@@ -1,5 +1,6 @@
--- The definitions of this crate: a recipe's items, when a recipe is well formed, what its functions answer in numbers, and the faults place by place.
+-- The definitions of this crate: a recipe's items, the kinds that the code knows, when a recipe is well formed, what its functions answer in numbers, and the faults place by place.
 pub mod Items
+pub mod Kinds
 pub mod Shape
 pub mod Answers
 pub mod Faults

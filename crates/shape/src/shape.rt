@@ -1,85 +1,93 @@
 // A recipe's shape: its width, its two lists, and its items from left to right with the count of values on hand. Nothing of it
 // is worked out, and a recipe that is well formed never lacks an operand or a place on hand when it runs.
 ghost use Rattle.std.specs.Prelude.{◌≡◌, [], length};
-ghost use Rattle.shape.specs.Items.{items};
+ghost use Rattle.shape.specs.Items.{kind_of, items};
 ghost use Rattle.shape.specs.Shape.{shape_from, shape_at, shape_of};
-ghost use Rattle.shape.specs.Answers.{verdict};
+ghost use Rattle.shape.specs.Answers.{verdict, held_verdict, held_for};
 
-use crate::types::{Limit, Shape};
+use crate::kind::Kind;
 use crate::width::limit_of;
-use checked::refusal::Refusal;
+use checked::refusal::{Refusal, RefusedAt};
 
-// The whole: the width first.
-pub fn shape(width: u64, kinds: &[u8], numbers: &[u64]) -> Shape
+// The limit of a well-formed recipe's width, or why the recipe is not well formed, and where. The width is looked at first.
+#[tactic(auto, unfolding(crate::specs::Shape::shape_of, crate::specs::Answers::limit_for))]
+pub fn shape(width: u64, kinds: &[u8], numbers: &[u64]) -> Result<u64, RefusedAt>
     ensures { verdict result ≡ shape_of width kinds.now numbers.now }
 {
     match limit_of(width) {
-        Limit::Largest(limit) => within(limit, kinds, numbers),
-        Limit::Unknown => Shape::Refused(Refusal::UnknownWidth, 0),
+        Some(limit) => within(limit, kinds, numbers),
+        None => Err(Refusal::UnknownWidth.at(0)),
     }
 }
 
 // At a limit: the lists' lengths, the count of items, then the items.
-fn within(limit: u64, kinds: &[u8], numbers: &[u64]) -> Shape
+#[tactic(auto, using(std::proofs::lemmas::Bool::Decides::nat_tests), unfolding(crate::specs::Shape::shape_at))]
+fn within(limit: u64, kinds: &[u8], numbers: &[u64]) -> Result<u64, RefusedAt>
     ensures { verdict result ≡ shape_at limit kinds.now numbers.now }
 {
     let count = kinds.len();
     if count != numbers.len() {
-        return Shape::Refused(Refusal::LengthsDiffer, 0);
+        return Err(Refusal::LengthsDiffer.at(0));
     }
-    if count == 0 {
-        return Shape::Refused(Refusal::ItemCount, 0);
-    }
-    if 256 < count {
-        return Shape::Refused(Refusal::ItemCount, 0);
+    if count == 0 || 256 < count {
+        return Err(Refusal::ItemCount.at(0));
     }
     of_items(limit, kinds, numbers)
 }
 
 // Item by item: `held` is how many values are on hand before item i.
-fn of_items(limit: u64, kinds: &[u8], numbers: &[u64]) -> Shape
+fn of_items(limit: u64, kinds: &[u8], numbers: &[u64]) -> Result<u64, RefusedAt>
     requires { length kinds.now ≡ length numbers.now }
     ensures { verdict result ≡ shape_from limit 0 0 (items kinds.now numbers.now) }
 {
     let mut held: u64 = 0;
-    let mut i = 0;
-    while i < kinds.len() {
-        let kind = kinds[i];
-        let number = numbers[i];
-        if kind == 0 {
+    for (i, kind) in kinds.iter().enumerate() {
+        match after(limit, held, *kind, numbers[i]) {
+            Ok(left) => {
+                held = left;
+            }
+            Err(refusal) => {
+                return Err(refusal.at(i as u64));
+            }
+        }
+    }
+    at_end(limit, held, kinds.len() as u64)
+}
+
+// How many values are on hand after an item, or its fault.
+fn after(limit: u64, held: u64, kind: u8, number: u64) -> Result<u64, Refusal>
+    ensures { held_verdict result ≡ held_for limit held (kind_of kind) number }
+{
+    match Kind::try_from(kind)? {
+        Kind::Literal => {
             if limit < number {
-                return Shape::Refused(Refusal::LiteralTooLarge, i as u64);
+                return Err(Refusal::LiteralTooLarge);
             }
             if 31 < held {
-                return Shape::Refused(Refusal::HandFull, i as u64);
+                return Err(Refusal::HandFull);
             }
-            held = held + 1;
-        } else {
-            if 6 < kind {
-                return Shape::Refused(Refusal::UnknownKind, i as u64);
-            }
+            Ok(held + 1)
+        }
+        Kind::Operation(_) => {
             if number != 0 {
-                return Shape::Refused(Refusal::UnknownKind, i as u64);
+                return Err(Refusal::UnknownKind);
             }
             if held < 2 {
-                return Shape::Refused(Refusal::TooFewOnHand, i as u64);
+                return Err(Refusal::TooFewOnHand);
             }
-            held = held - 1;
+            Ok(held - 1)
         }
-        i = i + 1;
     }
-    at_end(limit, held, i as u64)
 }
 
 // The end: one value is left.
-fn at_end(limit: u64, held: u64, place: u64) -> Shape
+#[tactic(auto, unfolding(crate::specs::Shape::shape_from))]
+fn at_end(limit: u64, held: u64, place: u64) -> Result<u64, RefusedAt>
     ensures { verdict result ≡ shape_from limit place held [] }
 {
-    if held == 1 {
-        return Shape::WellFormed(limit);
+    match held {
+        0 => Err(Refusal::NoneLeft.at(place)),
+        1 => Ok(limit),
+        _ => Err(Refusal::SeveralLeft.at(place)),
     }
-    if held == 0 {
-        return Shape::Refused(Refusal::NoneLeft, place);
-    }
-    Shape::Refused(Refusal::SeveralLeft, place)
 }

@@ -3,6 +3,7 @@
 pub mod Division
 pub mod WholeParts
 pub mod Answers
+pub mod Narrowed
 pub mod Promises
 pub mod Unique
 pub mod Examples

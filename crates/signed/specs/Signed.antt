@@ -1,17 +1,10 @@
 -- The truncating quotient and remainder of signed numbers of W bits, and what an answer is in numbers.
 -- Assumes nothing.
-use Rattle.std.specs.Prelude.{◌≡◌, Bool, true, false, cond, ℕ, zero, suc, ◌-◌, ◌/◌, ◌^◌, ltb, ℤ, pos, negsuc, nat_abs, ◌-ℤ◌, ◌*ℤ◌, ◌≤ℤ◌}
+use Rattle.std.specs.Prelude.{◌≡◌, Option, Some, None, Result, Ok, Err, Bool, true, false, cond, ℕ, zero, suc, ◌-◌, ◌/◌, ◌^◌, ltb, ℤ, pos, negsuc, nat_abs, ◌-ℤ◌, ◌*ℤ◌, ◌≤ℤ◌}
 use Rattle.std.specs.Int.Signed.{mag}
 use Rattle.whole.specs.DivMod.{rust_div, rust_rem}
+use Rattle.checked.specs.declared.refusal.Refusal.{Refusal}
 use Rattle.checked.specs.Paper.{number_of}
-use Rattle.signed.specs.declared.types.Signed8.{Signed8}
-use Rattle.signed.specs.declared.types.Signed8.TheVariants as signed8
-use Rattle.signed.specs.declared.types.Signed16.{Signed16}
-use Rattle.signed.specs.declared.types.Signed16.TheVariants as signed16
-use Rattle.signed.specs.declared.types.Signed32.{Signed32}
-use Rattle.signed.specs.declared.types.Signed32.TheVariants as signed32
-use Rattle.signed.specs.declared.types.Signed64.{Signed64}
-use Rattle.signed.specs.declared.types.Signed64.TheVariants as signed64
 
 -- the refusal's number and place, or 0 and 0 with the number
 pub record Answer : Type 0 where
@@ -25,21 +18,19 @@ refused n = record { code = n; place = 0; number = pos 0 }
 abbrev pub number : ℤ → Answer
 number z = record { code = 0; place = 0; number = z }
 
-abbrev pub answer8 : Signed8 → Answer
-answer8 (signed8.Number z) = number z
-answer8 (signed8.Refused r) = refused (number_of r)
+-- an answer of any type, by the whole number that each of its numbers is
+abbrev pub answer_by : {N : Type 0} → (N → ℤ) → Result N Refusal → Answer
+answer_by whole (Ok n) = number (whole n)
+answer_by whole (Err r) = refused (number_of r)
 
-abbrev pub answer16 : Signed16 → Answer
-answer16 (signed16.Number z) = number z
-answer16 (signed16.Refused r) = refused (number_of r)
+-- an answer of whole numbers
+abbrev pub answer : Result ℤ Refusal → Answer
+answer = answer_by (λ z. z)
 
-abbrev pub answer32 : Signed32 → Answer
-answer32 (signed32.Number z) = number z
-answer32 (signed32.Refused r) = refused (number_of r)
-
-abbrev pub answer64 : Signed64 → Answer
-answer64 (signed64.Number z) = number z
-answer64 (signed64.Refused r) = refused (number_of r)
+-- what may be nothing, of any type
+abbrev pub option_by : {N : Type 0} → (N → ℤ) → Option N → Option ℤ
+option_by whole (Some n) = Some (whole n)
+option_by whole None = None
 
 abbrev pub is_zero : ℤ → Bool
 is_zero (pos zero) = true
@@ -53,6 +44,15 @@ smallest W = negsuc (2 ^ (W - 1) - 1)
 -- -2^(W - 1) <= z <= 2^(W - 1) - 1: `mag` is z itself from 0 up, and -z - 1 below 0
 abbrev pub in_range : ℕ → ℤ → Bool
 in_range W z = ltb (mag z) (2 ^ (W - 1))
+
+-- z, if it is a number of W bits
+abbrev pub at_width : ℕ → ℤ → Option ℤ
+at_width W z = cond (in_range W z) (Some z) None
+
+-- an answer of whole numbers at W bits
+abbrev pub narrowed_to : ℕ → Result ℤ Refusal → Answer
+narrowed_to W (Ok z) = cond (in_range W z) (number z) (refused 4)
+narrowed_to W (Err r) = refused (number_of r)
 
 unfoldable pub quotient_of : ℕ → ℤ → ℤ → Answer
 quotient_of W a b = cond (is_zero b) (refused 1) (cond (in_range W (rust_div a b)) (number (rust_div a b)) (refused 4))

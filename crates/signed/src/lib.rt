@@ -2,4 +2,4 @@
 #![tactic(auto)]
 
 pub mod divide;
-pub mod types;
+pub mod width;

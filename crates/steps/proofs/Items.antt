@@ -8,7 +8,7 @@ use Prim.Native.Nat.{ℕ, suc, ◌+◌}
 use native.Mathlib.Omega.{arith}
 use lib.Dec.{eqb}
 use lib.ListN.{length}
-use Rattle.checked.specs.declared.types.Checked64.TheVariants.{Fits}
+use Rattle.checked.specs.declared.types.Checked.TheVariants.{Fits}
 use Rattle.checked.specs.Value.{checked_of}
 use Rattle.checked.proofs.Limit.{fits}
 use Rattle.shape.specs.Items.{Kind, literal, operation, unknown, Item}

@@ -9,7 +9,7 @@ use lib.Dec.{leb}
 use borrow.Author.Tests.{leb-true, leb-false}
 use Rattle.whole.specs.Logarithm.{log_of}
 use Rattle.whole.proofs.Naturals.{log-of-small, log-of-more}
-use Rattle.checked.specs.declared.types.Checked64.TheVariants.{Fits}
+use Rattle.checked.specs.declared.types.Checked.TheVariants.{Fits}
 use Rattle.checked.proofs.Limit.{fits}
 use Rattle.steps.specs.declared.types.Logarithm.{Logarithm}
 use Rattle.steps.specs.declared.types.Phase.TheVariants.{InLogarithm}

@@ -11,7 +11,7 @@ use native.Mathlib.Omega.{arith}
 use lib.Dec.{eqb}
 use borrow.Author.Tests.{eqb-true}
 use Rattle.whole.specs.Logarithm.{log_of}
-use Rattle.checked.specs.declared.types.Checked64.TheVariants.{Fits}
+use Rattle.checked.specs.declared.types.Checked.TheVariants.{Fits}
 use Rattle.checked.specs.Value.{Value, checked_of, OneOverflowed}
 use Rattle.checked.specs.Paper.{Paper, value_in}
 use Rattle.checked.proofs.Limit.{fits, over, settled-at}

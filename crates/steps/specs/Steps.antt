@@ -1,7 +1,7 @@
 -- A run by single steps on checked values of the limit M, and its state after so many of them. The hand is a list, its top first.
 -- Assumes nothing.
 use Rattle.std.specs.Prelude.{◌≡◌, true, false, cond, List, [], ◌∷◌, ℕ, zero, suc, ◌/◌, ◌%◌, eqb, leb, length}
-use Rattle.checked.specs.declared.types.Checked64.TheVariants.{Fits, Overflowed}
+use Rattle.checked.specs.declared.types.Checked.TheVariants.{Fits, Overflowed}
 use Rattle.checked.specs.Value.{Value, checked_of, sum_of, product_of}
 use Rattle.checked.specs.Paper.{Paper, value_in, quotient_of, remainder_of, power_of, logarithm_of}
 use Rattle.shape.specs.Items.{Operation, sum, product, quotient, remainder, power, logarithm, Kind, literal, operation, unknown, Item}

@@ -2,7 +2,7 @@
 use checked::types::Checked64;
 
 // A power at work: first * second ^ exponent is what was asked.
-#[derive(Clone, Copy)]
+#[derive(Clone, Copy, Debug, PartialEq, Eq)]
 pub struct Power {
     pub first: Checked64,
     pub second: Checked64,
@@ -10,7 +10,7 @@ pub struct Power {
 }
 
 // A logarithm at work: count divisions by base have brought its argument down to left.
-#[derive(Clone, Copy)]
+#[derive(Clone, Copy, Debug, PartialEq, Eq)]
 pub struct Logarithm {
     pub base: u64,
     pub left: u64,
@@ -18,7 +18,7 @@ pub struct Logarithm {
 }
 
 // Between items, or within a power or a logarithm with its numbers.
-#[derive(Clone, Copy)]
+#[derive(Clone, Copy, Debug, PartialEq, Eq)]
 pub enum Phase {
     Between,
     InPower(Power),

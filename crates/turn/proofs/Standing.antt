@@ -1,8 +1,7 @@
 -- How a place stands: badly marked, not usable, not whole, or fine; and its fault.
 -- Assumes nothing.
 use mathlib.Core.Path.{◌≡◌, refl, ap, ap₂, sym, ◌∙◌}
-use mathlib.Core.Logic.{◌⊎◌, inl, inr, ⊎_elim}
-use mathlib.Core.List.{[], ◌∷◌}
+use mathlib.Core.Logic.{◌⊎◌, inl, inr}
 use mathlib.Core.Bool.{Bool, true, false, cond, ◌||◌, true≢false}
 use Prim.Native.Nat.{ℕ, ◌≤◌, ◌<◌}
 use native.Mathlib.Decide.{dec_lt}
@@ -11,12 +10,7 @@ use borrow.Author.Tests.{le-leb, lt-leb}
 use lib.Dec.{eqb}
 use lib.Ieee.{Float, nan, inf, fin}
 use Rattle.places.proofs.First.{holds-or-fails}
-use denote.Enum.Declared.{tag_of}
-use types.Run.{OneOf}
-use Rattle.reading.specs.declared.types.Reading.{Reading}
-use Rattle.reading.specs.declared.types.Reading.TheVariants.{Air, Ground, Unusable}
-use Rattle.reading.specs.Reading.{usable, reading_of}
-use Rattle.reading.specs.contracts.types.Reading as readings
+use Rattle.reading.specs.Reading.{usable}
 use Rattle.reading.specs.Level as level
 use Rattle.turn.specs.Wholes.{is_whole}
 use Rattle.turn.specs.Turning.{fault_of}
@@ -26,17 +20,6 @@ unfolding is_whole usable
 whole-usable nan w = w
 whole-usable (inf s) w = w
 whole-usable (fin s m e) w = refl
-
--- a reading that is a number, in the air or under the ground
-abbrev numbered : Reading → Bool
-numbered (Air x) = true
-numbered (Ground x) = true
-numbered Unusable = false
-
-has-number : (r : Reading) → OneOf (0 ∷ 1 ∷ []) (tag_of readings.the_type r) → numbered r ≡ true
-has-number (Air x) o = refl
-has-number (Ground x) o = refl
-has-number Unusable o = absurd (⊎_elim (λ z. omega arith) (λ z. omega arith) o)
 
 module _ (x : Float) (mark : ℕ) where
   -- ---- the fault, from what the place holds
@@ -153,40 +136,3 @@ module _ (x : Float) (mark : ℕ) where
 
       never : (c : ℕ) → fault_of x mark ≡ c → stopping c ≡ false → ⊥
       never c e n = true≢false (sym stops ∙ ap stopping e ∙ n)
-
-  -- ---- as it is looked for
-
-  pub refused-by-mark : 1 < mark → false ≡ eqb (fault_of x mark) 0
-  refused-by-mark h = ap (λ c. eqb c 0) (sym (badly-marked h))
-
-  -- well marked, it has no fault exactly when the reading is whole
-  pub told-by-whole : mark ≤ 1 → is_whole x ≡ eqb (fault_of x mark) 0
-  told-by-whole h =
-      elim (holds-or-fails (is_whole x)) [
-        | inl w ↦ w ∙ ap (λ c. eqb c 0) (sym (fine h w))
-        | inr w ↦
-            elim (holds-or-fails (usable x)) [
-              | inl u ↦ w ∙ ap (λ c. eqb c 0) (sym (not-whole h u w))
-              | inr u ↦ w ∙ ap (λ c. eqb c 0) (sym (not-usable h u))
-            ]
-      ]
-
-  -- ---- and as the reading is seen
-
-  seen-numbered : numbered (reading_of x mark) ≡ usable x
-  unfolding reading_of
-  seen-numbered = go (usable x) (eqb mark 0)
-    where
-      go : (s t : Bool) → numbered (cond s (cond t (Air x) (Ground x)) Unusable) ≡ s
-      go true true = refl
-      go true false = refl
-      go false t = refl
-
-  pub number-fault
-      : {r : Reading} → r ≡ reading_of x mark → OneOf (0 ∷ 1 ∷ []) (tag_of readings.the_type r) → mark ≤ 1 →
-      eqb (fault_of x mark) 0 ≡ false → 23 ≡ fault_of x mark
-  number-fault {r} e o h f =
-      sym (not-whole h (sym seen-numbered ∙ ap numbered (sym e) ∙ has-number r o) (told-by-whole h ∙ f))
-
-  pub unusable-fault : {r : Reading} → r ≡ reading_of x mark → r ≡ Unusable → mark ≤ 1 → 22 ≡ fault_of x mark
-  unusable-fault e n h = sym (not-usable h (sym seen-numbered ∙ ap numbered (sym e ∙ n)))

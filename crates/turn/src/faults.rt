@@ -1,53 +1,45 @@
 // Where a level can't be turned into a field, and why.
-ghost use Rattle.std.specs.Prelude.{◌≡◌, false, ◌<◌, eqb, length};
+ghost use Rattle.std.specs.Prelude.{◌≡◌, ◌<◌, length, MatchOption};
 ghost use Rattle.places.specs.Faults.{first_fault};
 ghost use Rattle.checked.specs.Paper.{number_of};
 ghost use Rattle.turn.specs.Turning.{fault_of, fault_at, refused};
-ghost use Rattle.turn.specs.Answers.{turned};
 
-use crate::types::Turn;
 use crate::wholes::whole;
-use checked::refusal::Refusal;
+use checked::refusal::{Refusal, RefusedAt};
 use reading::seen::seen;
 use reading::types::Reading;
 
-// Whether a place has no fault.
-fn faultless(x: f32, mark: u8) -> bool
-    ensures { result ≡ eqb (fault_of x mark) 0 }
+// Why a place stops the turning: by its mark first, then as a reading.
+fn fault(x: f32, mark: u8) -> Option<Refusal>
+    ensures { MatchOption result (fault_of x mark ≡ 0) (λ r. fault_of x mark ≡ number_of r) }
 {
     if 1 < mark {
-        return false;
+        return Some(Refusal::BadMark);
     }
-    whole(x)
-}
-
-// Why a place with a fault stops the turning: by its mark first, then as a reading.
-fn fault(x: f32, mark: u8) -> Refusal
-    requires { eqb (fault_of x mark) 0 ≡ false }
-    ensures { number_of result ≡ fault_of x mark }
-{
-    if 1 < mark {
-        return Refusal::BadMark;
+    if whole(x) {
+        return None;
     }
     match seen(x, mark) {
-        Reading::Air(_) | Reading::Ground(_) => Refusal::NotWhole,
-        Reading::Unusable => Refusal::UnusableReading,
+        Reading::Air(_) | Reading::Ground(_) => Some(Refusal::NotWhole),
+        Reading::Unusable => Some(Refusal::UnusableReading),
     }
 }
 
-// The refusal at the earliest place with a fault.
-pub(crate) fn refuse(level: &[f32], grounds: &[u8]) -> Turn
+// The refusal at the earliest place with a fault. The scan has the same walk over its own faults: what a walk promises
+// is said of its faults, so that one over any would be told by its caller what both say here.
+pub(crate) fn refuse(level: &[f32], grounds: &[u8]) -> RefusedAt
     requires level_len { length level.now ≡ length grounds.now }
     requires level_in_bounds { first_fault (fault_at level.now grounds.now) (length level.now) < length level.now }
-    ensures { turned result ≡
+    ensures { refused (number_of result.refusal) result.place ≡
         refused
         (fault_at level.now grounds.now
         (first_fault (fault_at level.now grounds.now) (length level.now)))
         (first_fault (fault_at level.now grounds.now) (length level.now)) }
 {
-    let mut place = 0;
-    while faultless(level[place], grounds[place]) {
-        place = place + 1;
+    for place in 0..level.len() {
+        if let Some(refusal) = fault(level[place], grounds[place]) {
+            return refusal.at(place as u64);
+        }
     }
-    Turn::Refused(fault(level[place], grounds[place]), place as u64)
+    unreachable!()
 }

@@ -3,5 +3,4 @@
 
 mod faults;
 pub mod turn;
-pub mod types;
 pub mod wholes;

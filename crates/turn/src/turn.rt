@@ -6,9 +6,8 @@ ghost use Rattle.turn.specs.Turning.{turning_of, numbers_after, marks_after};
 ghost use Rattle.turn.specs.Answers.{turned};
 
 use crate::faults::refuse;
-use crate::types::Turn;
 use crate::wholes::{all_whole, value};
-use checked::refusal::Refusal;
+use checked::refusal::{Refusal, RefusedAt};
 use reading::marks::all_marked;
 
 // Each reading's value.
@@ -17,10 +16,8 @@ fn put_values(level: &[f32], numbers: &mut [u64])
     requires level_value { every (is_whole_at level.now) (length level.now) ≡ true }
     ensures { numbers.new ≡ over (value_at level.now) (length level.now) numbers.old }
 {
-    let mut i = 0;
-    while i < level.len() {
-        numbers[i] = value(level[i]);
-        i = i + 1;
+    for (i, x) in level.iter().enumerate() {
+        numbers[i] = value(*x);
     }
 }
 
@@ -29,16 +26,17 @@ fn put_unmarked(count: usize, marks: &mut [u8])
     requires { count ≤ length marks.old }
     ensures { marks.new ≡ over (λ i. 0) count marks.old }
 {
-    let mut i = 0;
-    while i < count {
-        marks[i] = 0;
-        i = i + 1;
-    }
+    marks[..count].fill(0);
 }
 
 // The field whose numbers are the level's readings, all marks 0. The lists' lengths come first, then the room, then the
 // places; the lists stay on refusal.
-pub fn turn(level: &[f32], grounds: &[u8], numbers: &mut [u64], marks: &mut [u8]) -> Turn
+pub fn turn(
+    level: &[f32],
+    grounds: &[u8],
+    numbers: &mut [u64],
+    marks: &mut [u8],
+) -> Result<(), RefusedAt>
     ensures result_value { turned result ≡ turning_of level.now grounds.now numbers.old marks.old }
     ensures numbers_new { numbers.new ≡
         numbers_after level.now grounds.now numbers.old marks.old }
@@ -46,24 +44,18 @@ pub fn turn(level: &[f32], grounds: &[u8], numbers: &mut [u64], marks: &mut [u8]
         marks_after level.now grounds.now numbers.old marks.old }
 {
     if level.len() != grounds.len() {
-        return Turn::Refused(Refusal::LengthsDiffer, 0);
+        return Err(Refusal::LengthsDiffer.at(0));
     }
-    if level.len() == 0 {
-        return Turn::Refused(Refusal::FieldEmpty, 0);
+    if level.is_empty() {
+        return Err(Refusal::FieldEmpty.at(0));
     }
-    if numbers.len() < level.len() {
-        return Turn::Refused(Refusal::ListTooShort, 0);
+    if numbers.len() < level.len() || marks.len() < level.len() {
+        return Err(Refusal::ListTooShort.at(0));
     }
-    if marks.len() < level.len() {
-        return Turn::Refused(Refusal::ListTooShort, 0);
-    }
-    if !all_marked(grounds) {
-        return refuse(level, grounds);
-    }
-    if !all_whole(level) {
-        return refuse(level, grounds);
+    if !all_marked(grounds) || !all_whole(level) {
+        return Err(refuse(level, grounds));
     }
     put_values(level, numbers);
     put_unmarked(level.len(), marks);
-    Turn::Field
+    Ok(())
 }

@@ -9,42 +9,34 @@ fn rounded(x: f32) -> f32
     ensures { result ≡ rounded_of x }
 {
     if 8388608.0 <= x {
-        return x;
+        x
+    } else {
+        (x + 8388608.0) - 8388608.0
     }
-    (x + 8388608.0) - 8388608.0
 }
 
 // Whether a float is a whole number from 0 to 16,777,215. The two zeros are; NaN and the infinities aren't.
 pub fn whole(x: f32) -> bool
     ensures { result ≡ is_whole x }
 {
-    if 0.0 <= x {
-        if x < 16777216.0 {
-            return rounded(x) == x;
-        }
-    }
-    false
+    0.0 <= x && x < 16777216.0 && rounded(x) == x
 }
 
 // 0 for such a whole number, and 1 for any other float.
 fn unfit(x: f32) -> u32
     ensures { result ≡ cond (is_whole x) 0 1 }
 {
-    if whole(x) {
-        return 0;
-    }
-    1
+    if whole(x) { 0 } else { 1 }
 }
 
-// Whether every reading is such a whole number. There is no early exit.
+// Whether every reading is such a whole number. There is no early exit; joined as numbers of 32 bits, which took less
+// time than as a `bool`.
 pub fn all_whole(level: &[f32]) -> bool
     ensures { result ≡ every (is_whole_at level.now) (length level.now) }
 {
     let mut any: u32 = 0;
-    let mut i = 0;
-    while i < level.len() {
-        any = any | unfit(level[i]);
-        i = i + 1;
+    for x in level {
+        any |= unfit(*x);
     }
     any == 0
 }
@@ -54,8 +46,5 @@ pub(crate) fn value(x: f32) -> u64
     requires { is_whole x ≡ true }
     ensures { result ≡ value_of x }
 {
-    if x == 0.0 {
-        return 0;
-    }
-    (x as u32) as u64
+    if x == 0.0 { 0 } else { (x as u32) as u64 }
 }

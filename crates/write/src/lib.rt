@@ -1,5 +1,4 @@
 // The block writer: `write::write` makes blocks of a field.
 #![tactic(auto)]
 
-pub mod types;
 pub mod write;

@@ -4,14 +4,14 @@ use mathlib.Core.Path.{◌≡◌, refl, ap, ◌∙◌}
 use mathlib.Core.List.{List}
 use Prim.Native.Nat.{ℕ}
 use native.Mathlib.Omega.{arith}
-use borrow.Author.Rules.{rules}
 use Rattle.little.specs.Bytes.{part, little}
 use Rattle.layout.specs.Editions.{one}
 use Rattle.layout.specs.Layout.{block_number, count}
-use Rattle.layout.specs.Reading.{given}
+use Rattle.layout.specs.Reading.{refused, given, reading_as, numbers_after_as, marks_after_as}
 use Rattle.layout.proofs.Faults.{read-sound}
 use Rattle.layout.proofs.Layouts.{sound-sizes}
 use Rattle.block.proofs.Readings.{numbers-short-so, marks-short-so, given-so}
+use Rattle.block.proofs.read.values.Goals.{then-numbers-count-via-then-numbers-count, then-numbers-count-via-else-numbers-count+then-marks-count}
 use Rattle.block.proofs.read.values.Goals as goal
 
 number-read : (b : List ℕ) → little (part 0 4 b) ≡ block_number b
@@ -22,23 +22,18 @@ pub bounds-block-4 : goal.bounds-block-4
 bounds-block-4 c =
     let d = c in omega (arith, sound-sizes one d.args.block.now d.requires)
 
-pub returns-then-numbers-count-clause-result_value : goal.returns-then-numbers-count-clause-result_value
-returns-then-numbers-count-clause-result_value c = (numbers-short-so one _ _ _ (search rules) (search rules)).0
-
-pub returns-then-numbers-count-clause-numbers_new : goal.returns-then-numbers-count-clause-numbers_new
-returns-then-numbers-count-clause-numbers_new c = (numbers-short-so one _ _ _ (search rules) (search rules)).1.0
-
-pub returns-then-numbers-count-clause-marks_new : goal.returns-then-numbers-count-clause-marks_new
-returns-then-numbers-count-clause-marks_new c = (numbers-short-so one _ _ _ (search rules) (search rules)).1.1
-
-pub returns-then-marks-count-clause-result_value : goal.returns-then-marks-count-clause-result_value
-returns-then-marks-count-clause-result_value c = (marks-short-so one _ _ _ (search rules) (search rules) (search rules)).0
-
-pub returns-then-marks-count-clause-numbers_new : goal.returns-then-marks-count-clause-numbers_new
-returns-then-marks-count-clause-numbers_new c = (marks-short-so one _ _ _ (search rules) (search rules) (search rules)).1.0
-
-pub returns-then-marks-count-clause-marks_new : goal.returns-then-marks-count-clause-marks_new
-returns-then-marks-count-clause-marks_new c = (marks-short-so one _ _ _ (search rules) (search rules) (search rules)).1.1
+pub returns-then-numbers-count : goal.returns-then-numbers-count
+returns-then-numbers-count c =
+    let b = c.args.block.now in
+    let ns = c.args.numbers.now in
+    let ms = c.args.marks.now in
+    let d : (refused 19 ≡ reading_as one b ns ms) × ((ns ≡ numbers_after_as one b ns ms) × (ms ≡ marks_after_as one b ns ms)) =
+    elim c.then-numbers-count.branch [
+      | then-numbers-count-via-then-numbers-count w ↦ numbers-short-so one b ns ms c.requires w.if-numbers-count.true
+      | then-numbers-count-via-else-numbers-count+then-marks-count w ↦
+          marks-short-so one b ns ms c.requires w.if-numbers-count.false w.if-marks-count.true
+    ] in
+    record { result_value = d.0; numbers_new = d.1.0; marks_new = d.1.1 }
 
 pub copy_numbers-requires : goal.copy_numbers-requires
 copy_numbers-requires c =

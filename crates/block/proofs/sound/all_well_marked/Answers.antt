@@ -10,7 +10,7 @@ use Rattle.layout.specs.Layout.{place_well_marked}
 use Rattle.block.proofs.sound.all_well_marked.Goals as goal
 
 pub loop-i-init : goal.loop-i-init
-loop-i-init c = (every-none (place_well_marked c.args.first c.args.b.now), omega arith)
+loop-i-init c = every-none (place_well_marked c.args.first c.args.b.now)
 
 pub returns-then-not-well_marked : goal.returns-then-not-well_marked
 returns-then-not-well_marked c =
@@ -24,10 +24,7 @@ pub loop-i-preserved : goal.loop-i-preserved
 loop-i-preserved c =
     let l = c in
     let a = l.args in
-    let f = place_well_marked a.first a.b.now in (
-      ap (every f) (add-one l.loop-i.i)
-          ∙ every-more f l.loop-i.i
-          ∙ ap₂ ◌&&◌ l.loop-i.invariant.0
-          (sym c.well_marked.ensures ∙ c.if-not-well_marked.false),
-      omega arith,
-    )
+    let f = place_well_marked a.first a.b.now in
+    ap (every f) (add-one l.loop-i.i)
+    ∙ every-more f l.loop-i.i
+    ∙ ap₂ ◌&&◌ l.loop-i.invariant (sym c.well_marked.ensures ∙ c.if-not-well_marked.false)

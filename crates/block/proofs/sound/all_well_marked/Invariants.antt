@@ -2,13 +2,9 @@
 -- Assumes nothing.
 use mathlib.Core.Path.{◌≡◌}
 use mathlib.Core.Bool.{true}
-use Prim.Native.Nat.{◌-◌, ◌≤◌}
 use Rattle.places.specs.Places.{every}
 use Rattle.layout.specs.Layout.{place_well_marked}
 use Rattle.block.proofs.sound.all_well_marked.Given as goal
 
 abbrev pub invariant-loop-i : goal.invariant-loop-i
-invariant-loop-i l = (every (place_well_marked l.first l.b) l.i ≡ true) × (l.i ≤ l.count)
-
-abbrev pub decreases-loop-i : goal.decreases-loop-i
-decreases-loop-i l = l.count - l.i
+invariant-loop-i l = every (place_well_marked l.first l.b) l.i ≡ true

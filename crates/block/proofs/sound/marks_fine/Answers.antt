@@ -7,5 +7,4 @@ use Rattle.block.proofs.sound.marks_fine.Goals as goal
 pub returns-then-all_zero : goal.returns-then-all_zero
 returns-then-all_zero c =
     let a = c.args in
-    unmarked a.first a.b.now a.count c.requires.1
-    (sym c.all_zero.ensures ∙ c.if-all_zero.true)
+    c.if-all_zero.true ∙ unmarked a.first a.b.now a.count c.requires (sym c.all_zero.ensures ∙ c.if-all_zero.true)

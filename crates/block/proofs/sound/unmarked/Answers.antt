@@ -9,15 +9,16 @@ use Rattle.layout.specs.Editions.{block_length, marks_at, one}
 use Rattle.block.specs.Marks.{no_marks}
 use Rattle.block.proofs.sound.unmarked.Goals as goal
 
-pub returns-then-block-ne-BLOCK_LENGTH : goal.returns-then-block-ne-BLOCK_LENGTH
+pub returns-then-block-eq-BLOCK_LENGTH : goal.returns-then-block-eq-BLOCK_LENGTH
 unfolding no_marks
-returns-then-block-ne-BLOCK_LENGTH c =
-    let b = c.args.block.now in
-    sym (ap (λ t. t && zeros marks_at one.past b) (ne_eqb (length b) block_length c.if-block-ne-BLOCK_LENGTH.true))
-
-pub returns : goal.returns
-unfolding no_marks
-returns c =
+returns-then-block-eq-BLOCK_LENGTH c =
     let b = c.args.block.now in
     c.all_zero.ensures
-    ∙ sym (ap (λ t. t && zeros marks_at one.past b) (eq-eqb (length b) block_length c.if-block-ne-BLOCK_LENGTH.false))
+    ∙ sym (ap (λ t. t && zeros marks_at one.past b) (eq-eqb (length b) block_length c.if-block-eq-BLOCK_LENGTH.true))
+
+pub returns-else-block-eq-BLOCK_LENGTH : goal.returns-else-block-eq-BLOCK_LENGTH
+unfolding no_marks
+returns-else-block-eq-BLOCK_LENGTH c =
+    let b = c.args.block.now in
+    let n = ne_eqb (length b) block_length c.if-block-eq-BLOCK_LENGTH.false in
+    n ∙ sym (ap (λ t. t && zeros marks_at one.past b) n)

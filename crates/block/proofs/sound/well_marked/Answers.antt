@@ -14,8 +14,8 @@ number-read : (from : ℕ) (b : List ℕ) (i : ℕ) → little (part (from + 8 *
 unfolding number_from
 number-read from b i = refl
 
-pub returns : goal.returns
-returns c =
+pub returns-then-mark-eq1 : goal.returns-then-mark-eq1
+returns-then-mark-eq1 c =
     let a = c.args in
     ap (λ n. eqb n 0) (c.long_at.ensures ∙ number-read a.first a.b.now a.i)
-    ∙ marked-1 (byte_at a.b.now (marks_at + a.i)) (number_from a.first a.b.now a.i) c.if-mark-ne1.false
+    ∙ marked-1 (byte_at a.b.now (marks_at + a.i)) (number_from a.first a.b.now a.i) c.if-mark-eq1.true

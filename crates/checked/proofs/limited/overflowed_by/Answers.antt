@@ -1,6 +1,6 @@
 -- `limited::overflowed_by` meets its contract.
 -- Assumes nothing.
-use Rattle.checked.specs.declared.types.Checked64.TheVariants.{Overflowed}
+use Rattle.checked.specs.declared.types.Checked.TheVariants.{Overflowed}
 use Rattle.checked.specs.Value.{raised_of}
 use Rattle.checked.proofs.Arms.{at}
 use Rattle.checked.proofs.Known.{overflowed-to-overflowed}

@@ -1,7 +1,7 @@
 -- `limited::times_overflowed` meets its contract.
 -- Assumes nothing.
 use mathlib.Core.Path.{◌∙◌}
-use Rattle.checked.specs.declared.types.Checked64.TheVariants.{Fits, Overflowed}
+use Rattle.checked.specs.declared.types.Checked.TheVariants.{Fits, Overflowed}
 use Rattle.checked.specs.Value.{product_of}
 use Rattle.checked.proofs.Arms.{at}
 use Rattle.checked.proofs.Limit.{product-commutes, product-overflowed-both}

@@ -6,6 +6,3 @@ use Rattle.checksum.proofs.sum.check_sum.Given as goal
 
 abbrev pub invariant-loop-row : goal.invariant-loop-row
 invariant-loop-row l = Columns l.b l.row l.all l.rows × (l.row ≤ 8)
-
-abbrev pub decreases-loop-row : goal.decreases-loop-row
-decreases-loop-row l = l.row

@@ -32,15 +32,15 @@ module _ (c : After-shared_slice_known-1) where
   here =
       let bytes : Bytes b = λ j. (c.shared_slice_known-1.given j).fits in (
         weighed-at-most b i bytes c.loop-i-test.true,
-        sums-at-most b i bytes c.loop-i.invariant.2,
+        sums-at-most b i bytes (omega arith),
         ap (total (weighed b)) (add-one i) ∙ total-more (weighed b) i,
       )
 
 pub loop-i-init : goal.loop-i-init
-loop-i-init c = (start c.args.b.now, omega arith, omega arith)
+loop-i-init c = start c.args.b.now
 
 pub overflow_add-sum-in-loop-i : goal.overflow_add-sum-in-loop-i
 overflow_add-sum-in-loop-i c = omega (arith, here c)
 
 pub loop-i-preserved : goal.loop-i-preserved
-loop-i-preserved c = (omega (arith, here c), omega arith, omega arith)
+loop-i-preserved c = omega (arith, here c)

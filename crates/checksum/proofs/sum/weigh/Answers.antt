@@ -35,10 +35,10 @@ here c =
     )
 
 pub loop-j-init : goal.loop-j-init
-loop-j-init c = (sym (total-none (column_weight c.args.all.now c.args.rows.now)), omega arith)
+loop-j-init c = sym (total-none (column_weight c.args.all.now c.args.rows.now))
 
 pub overflow_add-sum-in-loop-j-2 : goal.overflow_add-sum-in-loop-j-2
 overflow_add-sum-in-loop-j-2 c = omega (arith, here (goal.at.overflow_add-sum-in-loop-j-2 c).In-loop-j)
 
 pub loop-j-preserved : goal.loop-j-preserved
-loop-j-preserved c = (omega (arith, here (goal.at.loop-j-preserved c).In-loop-j), omega arith)
+loop-j-preserved c = omega (arith, here (goal.at.loop-j-preserved c).In-loop-j)

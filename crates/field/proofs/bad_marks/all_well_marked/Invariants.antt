@@ -3,15 +3,11 @@
 -- Assumes nothing.
 use mathlib.Core.Path.{◌≡◌}
 use mathlib.Core.Bool.{◌&&◌}
-use Prim.Native.Nat.{◌-◌, ◌≤◌}
 use lib.Dec.{eqb, leb}
 use lib.ListN.{length}
 use Rattle.places.specs.Places.{every}
 use Rattle.field.specs.Field.{well_marked_at}
 use Rattle.field.proofs.bad_marks.all_well_marked.Given as goal
 
-abbrev pub invariant-loop-i : goal.invariant-loop-i
-invariant-loop-i l = ((leb l.most 1 && eqb l.any 0) ≡ every (well_marked_at l.numbers l.marks) l.i) × (l.i ≤ length l.numbers)
-
-abbrev pub decreases-loop-i : goal.decreases-loop-i
-decreases-loop-i l = length l.numbers - l.i
+abbrev pub invariant-loop-number : goal.invariant-loop-number
+invariant-loop-number l = (leb l.most 1 && eqb l.any 0) ≡ every (well_marked_at l.numbers l.marks) (length l.yielded)

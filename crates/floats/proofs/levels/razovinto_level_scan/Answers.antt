@@ -19,18 +19,18 @@ returns-then-extent-lt-EXTENT_LENGTH c =
     c.if-extent-lt-EXTENT_LENGTH.true c.too_short-then-extent-lt-EXTENT_LENGTH.ensures in
     record { value = d.0; answer_new = d.1.0; extent_new = d.1.1 }
 
-pub returns-in-Ranged : goal.returns-in-Ranged
-returns-in-Ranged c =
+pub returns-in-Ok : goal.returns-in-Ok
+returns-in-Ok c =
     let g = c.args in
     let d =
     ranged-gives g.level.now g.grounds.now g.extent.now g.answer.now c.if-answer-lt-PLACE_LENGTH.false
-    c.if-extent-lt-EXTENT_LENGTH.false c.scan.ensures c.in-Ranged.is in
+    c.if-extent-lt-EXTENT_LENGTH.false c.scan.ensures c.in-Ok.is in
     record { value = d.0; answer_new = d.1.0; extent_new = d.1.1 }
 
-pub returns-in-Refused : goal.returns-in-Refused
-returns-in-Refused c =
+pub returns-in-Err : goal.returns-in-Err
+returns-in-Err c =
     let g = c.args in
     let d =
     refused-gives g.level.now g.grounds.now g.extent.now g.answer.now c.if-answer-lt-PLACE_LENGTH.false
-    c.if-extent-lt-EXTENT_LENGTH.false c.scan.ensures c.in-Refused.is c.number.ensures in
+    c.if-extent-lt-EXTENT_LENGTH.false c.scan.ensures c.in-Err.is c.number.ensures in
     record { value = d.0; answer_new = d.1.0; extent_new = d.1.1 }

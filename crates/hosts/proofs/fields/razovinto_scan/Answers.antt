@@ -9,31 +9,16 @@ use Rattle.hosts.proofs.fields.razovinto_scan.Goals as goal
 
 pub returns-then-answer-lt-RANGE_LENGTH : goal.returns-then-answer-lt-RANGE_LENGTH
 returns-then-answer-lt-RANGE_LENGTH c =
-    let test = c in
-    let start = test in
-    let g = start.args in
-    let w = short-gives (of_scan (scan_of g.numbers.now g.marks.now)) g.answer.now test.if-answer-lt-RANGE_LENGTH.true
-    c.too_short.ensures in
+    let g = c.args in
+    let w = short-gives (of_scan (scan_of g.numbers.now g.marks.now)) g.answer.now c.if-answer-lt-RANGE_LENGTH.true c.too_short.ensures in
     record { value = w.0; answer_new = w.1 }
 
-pub returns-in-Ranged : goal.returns-in-Ranged
-returns-in-Ranged c =
-    let put = c in
-    let known = put in
-    let call = known in
-    let test = call in
-    let start = test in
-    let w = arm scanned of_scan start.args.answer.now test.if-answer-lt-RANGE_LENGTH.false refl put.put_four.ensures
-    known.in-Ranged.is call.scan.ensures in
+pub returns-in-Ok : goal.returns-in-Ok
+returns-in-Ok c =
+    let w = arm scanned of_scan c.args.answer.now c.if-answer-lt-RANGE_LENGTH.false refl c.put.ensures c.in-Ok.is c.scan.ensures in
     record { value = w.0; answer_new = w.1 }
 
-pub returns-in-Refused : goal.returns-in-Refused
-returns-in-Refused c =
-    let put = c in
-    let known = put in
-    let call = known in
-    let test = call in
-    let start = test in
-    let w = arm scanned of_scan start.args.answer.now test.if-answer-lt-RANGE_LENGTH.false c.number.ensures put.put_four-in-Refused.ensures
-    known.in-Refused.is call.scan.ensures in
+pub returns-in-Err : goal.returns-in-Err
+returns-in-Err c =
+    let w = arm scanned of_scan c.args.answer.now c.if-answer-lt-RANGE_LENGTH.false c.number.ensures c.put-in-Err.ensures c.in-Err.is c.scan.ensures in
     record { value = w.0; answer_new = w.1 }

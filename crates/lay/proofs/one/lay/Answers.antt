@@ -3,22 +3,17 @@
 use mathlib.Core.Path.{refl, sym, ◌∙◌}
 use Rattle.layout.specs.Editions.{one}
 use Rattle.lay.proofs.Laid.{no-block-stays, too-many-stays, uneven-stays, steps-put, check-laid}
+use Rattle.lay.proofs.one.lay.Goals.{then-block-ne-BLOCK_LENGTH-via-then-block-ne-BLOCK_LENGTH as no-block, then-block-ne-BLOCK_LENGTH-via-else-block-ne-BLOCK_LENGTH+then-count-gt-MOST as too-many, then-block-ne-BLOCK_LENGTH-via-else-block-ne-BLOCK_LENGTH+else-count-gt-MOST+then-marks-count as uneven}
 use Rattle.lay.proofs.one.lay.Goals as goal
 
 pub returns-then-block-ne-BLOCK_LENGTH : goal.returns-then-block-ne-BLOCK_LENGTH
 returns-then-block-ne-BLOCK_LENGTH c =
     let g = c.args in
-    sym (no-block-stays one g.number g.numbers.now g.marks.now g.block.now c.if-block-ne-BLOCK_LENGTH.true)
-
-pub returns-then-count-gt-MOST : goal.returns-then-count-gt-MOST
-returns-then-count-gt-MOST c =
-    let g = c.args in
-    sym (too-many-stays one g.number g.numbers.now g.marks.now g.block.now c.if-count-gt-MOST.true)
-
-pub returns-then-marks-count : goal.returns-then-marks-count
-returns-then-marks-count c =
-    let g = c.args in
-    sym (uneven-stays one g.number g.numbers.now g.marks.now g.block.now c.if-marks-count.true)
+    elim c.then-block-ne-BLOCK_LENGTH.branch [
+      | no-block w ↦ sym (no-block-stays one g.number g.numbers.now g.marks.now g.block.now w.if-block-ne-BLOCK_LENGTH.true)
+      | too-many w ↦ sym (too-many-stays one g.number g.numbers.now g.marks.now g.block.now w.if-count-gt-MOST.true)
+      | uneven w ↦ sym (uneven-stays one g.number g.numbers.now g.marks.now g.block.now w.if-marks-count.true)
+    ]
 
 pub returns : goal.returns
 returns c =

@@ -1,15 +1,23 @@
 -- `faults::fault` meets its contract.
 -- Assumes nothing.
-use mathlib.Core.Path.{sym}
-use Rattle.reading.proofs.Told.{bad-mark-is, unusable-reading-is, faulty-marked}
+use mathlib.Core.Path.{sym, ◌∙◌}
+use mathlib.Core.Logic.{inl, inr}
+use Rattle.reading.proofs.Told.{bad-mark-is, sound-is, unusable-reading-is, number-is, unusable-told}
 use Rattle.level.proofs.faults.fault.Goals as goal
 
-pub returns-then-mark-gt1 : goal.returns-then-mark-gt1
-returns-then-mark-gt1 c = let g = c.args in sym (bad-mark-is g.x g.mark c.if-mark-gt1.true)
+pub returns-then-mark-gt-GROUND : goal.returns-then-mark-gt-GROUND
+returns-then-mark-gt-GROUND c = let g = c.args in bad-mark-is g.x g.mark c.if-mark-gt-GROUND.true
 
-pub returns : goal.returns
-returns c =
+pub returns-in-Air : goal.returns-in-Air
+returns-in-Air c =
     let g = c.args in
-    sym
-    (unusable-reading-is g.x g.mark c.if-mark-gt1.false
-    (faulty-marked g.x g.mark c.if-mark-gt1.false c.requires))
+    sound-is g.x g.mark c.if-mark-gt-GROUND.false
+    (elim c.in-Air.is [
+      | inl a ↦ (number-is g.x g.mark a.0 (inl (sym c.seen.ensures ∙ a.1))).0
+      | inr a ↦ (number-is g.x g.mark a.0 (inr (sym c.seen.ensures ∙ a.1))).0
+    ])
+
+pub returns-in-Unusable : goal.returns-in-Unusable
+returns-in-Unusable c =
+    let g = c.args in
+    unusable-reading-is g.x g.mark c.if-mark-gt-GROUND.false (unusable-told g.x g.mark (sym c.in-Unusable.ensures))

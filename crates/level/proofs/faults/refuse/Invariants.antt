@@ -1,6 +1,6 @@
 -- `faults::refuse` meets its contract. The invariant: the earliest fault isn't before the place looked at.
 -- Assumes nothing.
-use Prim.Native.Nat.{◌-◌, ◌≤◌}
+use Prim.Native.Nat.{◌≤◌}
 use lib.ListN.{length}
 use Rattle.places.specs.Faults.{first_fault}
 use Rattle.reading.specs.Level.{fault_at}
@@ -8,6 +8,3 @@ use Rattle.level.proofs.faults.refuse.Given as goal
 
 abbrev pub invariant-loop-place : goal.invariant-loop-place
 invariant-loop-place l = l.place ≤ first_fault (fault_at l.level l.grounds) (length l.level)
-
-abbrev pub decreases-loop-place : goal.decreases-loop-place
-decreases-loop-place l = length l.level - l.place

@@ -21,5 +21,5 @@ returns-then-bits-ge2147483648 c =
     let e = signed-rank (bits_of c.args.x) c.if-bits-ge2147483648.true in
     omega (arith, below (goal.at.returns-then-bits-ge2147483648 c).Then-bits-ge2147483648)
 
-pub returns : goal.returns
-returns c = sym (unsigned-rank (bits_of c.args.x) c.if-bits-ge2147483648.false)
+pub returns-else-bits-ge2147483648 : goal.returns-else-bits-ge2147483648
+returns-else-bits-ge2147483648 c = sym (unsigned-rank (bits_of c.args.x) c.if-bits-ge2147483648.false)

@@ -47,10 +47,7 @@ rank-rank-requires c =
 
 pub loop-i-preserved : goal.loop-i-preserved
 loop-i-preserved c =
-    let g = c.args in (
-      ranked-turn g.level.now g.from c.loop-i.i c.loop-i.least c.loop-i.greatest c.match-seen.rank
-          c.lesser-least.result c.larger-greatest.result c.loop-i.invariant.1 c.loop-i.invariant.0
-          (rank-seen (goal.at.loop-i-preserved c).Joined-seen) c.lesser-least.ensures c.larger-greatest.ensures,
-      omega arith,
-      omega arith,
-    )
+    let g = c.args in
+    ranked-turn g.level.now g.from c.loop-i.i c.loop-i.least c.loop-i.greatest c.match-seen.rank
+    c.min-least.result c.max-greatest.result (omega arith) c.loop-i.invariant
+    (rank-seen (goal.at.loop-i-preserved c).Joined-seen) c.min-least.ensures c.max-greatest.ensures

@@ -1,11 +1,7 @@
 -- `ranks::ranked` meets its contract. The invariant: these are the ranks up to place i.
 -- Assumes nothing.
-use Prim.Native.Nat.{◌-◌, ◌≤◌}
 use Rattle.level.specs.Ranks.{RankedTo}
 use Rattle.level.proofs.ranks.ranked.Given as goal
 
 abbrev pub invariant-loop-i : goal.invariant-loop-i
-invariant-loop-i l = RankedTo l.level l.from l.i l.least l.greatest × (l.from ≤ l.i) × (l.i ≤ l.to)
-
-abbrev pub decreases-loop-i : goal.decreases-loop-i
-decreases-loop-i l = l.to - l.i
+invariant-loop-i l = RankedTo l.level l.from l.i l.least l.greatest

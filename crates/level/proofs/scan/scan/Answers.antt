@@ -4,13 +4,17 @@ use mathlib.Core.Path.{◌≡◌, ap, sym, ◌∙◌}
 use mathlib.Core.Bool.{false}
 use Prim.Native.Nat.{◌+◌, ◌<◌}
 use native.Mathlib.Omega.{arith}
+use borrow.Author.Tests.{eqb-true, eqb-false}
 use lib.ListN.{length}
 use lib.Ieee.{nan_bits}
 use Rattle.places.specs.Places.{every}
 use Rattle.places.specs.Faults.{first_fault}
 use Rattle.places.proofs.Faults.{no-fault-before-0}
+use Rattle.checked.specs.Paper.{number_of}
+use Rattle.checked.specs.declared.refusal.RefusedAt.{RefusedAt}
 use Rattle.reading.specs.Reading.{marked_at}
 use Rattle.reading.specs.Level.{fault_at}
+use Rattle.level.specs.Scan.{Scanned, refused}
 use Rattle.level.proofs.Stages.{at-unequal, at-empty, at-fault, badly-marked, unusable-ahead}
 use Rattle.level.proofs.Passing.{
   passed-none,
@@ -23,6 +27,9 @@ use Rattle.level.proofs.Passing.{
 }
 use Rattle.level.proofs.scan.scan.Goals.{After-all_marked, After-ranked-ranks}
 use Rattle.level.proofs.scan.scan.Goals as goal
+
+abbrev told : RefusedAt → Scanned
+told e = refused (number_of e.refusal) e.place
 
 -- ---- what is known once the marks are looked at
 
@@ -42,7 +49,7 @@ part
     : (c : After-ranked-ranks) → let g = c.args in
     let e = c.loop-at.extent in
     let r = c.ranked-ranks.result in
-    Part g.level.now g.grounds.now e.least e.greatest c.loop-at.at (c.loop-at.at + c.lesser.result) r.least r.greatest
+    Part g.level.now g.grounds.now e.least e.greatest c.loop-at.at (c.loop-at.at + c.min.result) r.least r.greatest
 part c =
     record {
       passed = c.loop-at.invariant;
@@ -57,18 +64,20 @@ unusable
 unusable c z =
     let g = c.args in
     let p = part c in
-    unusable-ahead g.level.now g.grounds.now c.loop-at.at (c.loop-at.at + c.lesser.result) p.within
+    unusable-ahead g.level.now g.grounds.now c.loop-at.at (c.loop-at.at + c.min.result) p.within
     (unusable-in p c.type_inv.level z)
 
 -- ---- the goals
 
 pub returns-then-level-grounds : goal.returns-then-level-grounds
 returns-then-level-grounds c =
-    let g = c.args in sym (at-unequal g.level.now g.grounds.now c.if-level-grounds.true)
+    let g = c.args in ap told c.at.ensures ∙ sym (at-unequal g.level.now g.grounds.now c.if-level-grounds.true)
 
-pub returns-then-level-eq0 : goal.returns-then-level-eq0
-returns-then-level-eq0 c =
-    let g = c.args in sym (at-empty g.level.now g.grounds.now c.if-level-grounds.false c.if-level-eq0.true)
+pub returns-then-is_empty : goal.returns-then-is_empty
+returns-then-is_empty c =
+    let g = c.args in
+    let none = eqb-true (length g.level.now) 0 (sym c.is_empty.ensures ∙ c.if-is_empty.true) in
+    ap told c.at-then-is_empty.ensures ∙ sym (at-empty g.level.now g.grounds.now c.if-level-grounds.false none)
 
 pub refuse-requires : goal.refuse-requires
 refuse-requires c =
@@ -83,7 +92,7 @@ returns-then-not-all_marked c =
     let g = c.args in
     c.refuse.ensures
     ∙ sym
-    (at-fault g.level.now g.grounds.now c.if-level-grounds.false c.if-level-eq0.false
+    (at-fault g.level.now g.grounds.now c.if-level-grounds.false (eqb-false (length g.level.now) 0 (sym c.is_empty.ensures ∙ c.if-is_empty.false))
     (badly (goal.at.returns-then-not-all_marked c).After-all_marked c.if-not-all_marked.true))
 
 pub float_from_bits-extent : goal.float_from_bits-extent
@@ -110,7 +119,7 @@ returns-then-ranks-eq0 c =
     let g = c.args in
     c.refuse-then-ranks-eq0.ensures
     ∙ sym
-    (at-fault g.level.now g.grounds.now c.if-level-grounds.false c.if-level-eq0.false
+    (at-fault g.level.now g.grounds.now c.if-level-grounds.false (eqb-false (length g.level.now) 0 (sym c.is_empty.ensures ∙ c.if-is_empty.false))
     (unusable (goal.at.returns-then-ranks-eq0 c).After-ranked-ranks c.if-ranks-eq0.true))
 
 pub settle-requires : goal.settle-requires
@@ -131,5 +140,5 @@ loop-at-preserved c =
 pub returns : goal.returns
 returns c =
     let g = c.args in
-    passed-all g.level.now g.grounds.now c.if-level-grounds.false c.if-level-eq0.false
+    passed-all g.level.now g.grounds.now c.if-level-grounds.false (eqb-false (length g.level.now) 0 (sym c.is_empty.ensures ∙ c.if-is_empty.false))
     c.loop-at-test.false c.loop-at.invariant

@@ -1,29 +1,26 @@
 -- `begin::begin` meets its contract.
 -- Assumes nothing.
-use Rattle.operation.proofs.Outcomes.{begins, begun-product, begun-sum, literal-begins, unknown-begins}
+use mathlib.Core.Path.{◌≡◌, ap, sym, ◌∙◌}
+use native.Mathlib.Omega.{arith}
+use Rattle.shape.specs.Items.{kind_of}
 use Rattle.shape.proofs.Codes.{kind_at}
-use mathlib.Core.Path.{◌∙◌, ap}
-use Rattle.steps.specs.Steps.{value}
+use Rattle.operation.specs.Work.{begun_as}
 use Rattle.operation.proofs.begin.begin.Goals as goal
 
-pub returns-then-kind-eq1 : goal.returns-then-kind-eq1
-returns-then-kind-eq1 c =
+pub returns-in-1 : goal.returns-in-1
+returns-in-1 c =
     let g = c.args in
-    let sum = ap value c.add_checked.ensures ∙ begun-sum g.limit g.left g.right in
-    begins g.limit g.left g.right g.kind (kind_at 1) c.if-kind-eq1.true sum
+    c.begin_operation.ensures ∙ ap (λ k. begun_as g.limit k g.left g.right) (sym (ap kind_of c.in-1.is ∙ kind_at 1))
 
-pub returns-then-kind-eq2 : goal.returns-then-kind-eq2
-returns-then-kind-eq2 c =
+pub returns-in-2 : goal.returns-in-2
+returns-in-2 c =
     let g = c.args in
-    let product = ap value c.mul_checked.ensures ∙ begun-product g.limit g.left g.right in
-    begins g.limit g.left g.right g.kind (kind_at 2) c.if-kind-eq2.true product
+    c.begin_operation-in-2.ensures ∙ ap (λ k. begun_as g.limit k g.left g.right) (sym (ap kind_of c.in-2.is ∙ kind_at 2))
 
-pub returns-then-kind-eq0 : goal.returns-then-kind-eq0
-returns-then-kind-eq0 c =
+pub returns-in_default : goal.returns-in_default
+returns-in_default c =
     let g = c.args in
-    literal-begins g.limit g.left g.right g.kind c.if-kind-eq0.true
-
-pub returns-then-kind-gt6 : goal.returns-then-kind-gt6
-returns-then-kind-gt6 c =
-    let g = c.args in
-    unknown-begins g.limit g.left g.right g.kind c.if-kind-gt6.true
+    let h = c.if-kind-lt3.true in
+    let d = c.in_default in
+    let e : g.kind ≡ 0 = omega (arith, d) in
+    ap (λ k. begun_as g.limit k g.left g.right) (sym (ap kind_of e ∙ kind_at 0))

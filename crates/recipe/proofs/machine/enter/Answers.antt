@@ -1,25 +1,23 @@
 -- `machine::enter` meets its contract.
 -- Assumes nothing.
-use Rattle.recipe.proofs.Entering.{good-literal, good-operation, few, literal-enters, operation-enters}
+use mathlib.Core.Path.{ap, ◌∙◌}
+use Rattle.shape.specs.Items.{kind_of}
+use Rattle.shape.proofs.Codes.{kind_at}
+use Rattle.recipe.proofs.Entering.{good-literal, good-operation, there-is, few, literal-enters, operation-enters}
 use Rattle.recipe.proofs.machine.enter.Goals as goal
 
 pub finish-requires : goal.finish-requires
 finish-requires c =
-    let s = c in
-    (s.requires.shown, (good-literal s.requires c.if-kind-eq0.true).0, few s.requires)
+    let s = c.requires in ((good-literal s (ap kind_of c.if-kind-eq0.true ∙ kind_at 0)).0, few s)
 
 pub returns-then-kind-eq0 : goal.returns-then-kind-eq0
-returns-then-kind-eq0 c =
-    let s = c in
-    literal-enters s.requires c.if-kind-eq0.true c.finish.ensures
+returns-then-kind-eq0 c = literal-enters c.requires (ap kind_of c.if-kind-eq0.true ∙ kind_at 0) c.finish.ensures
 
 pub operate-requires : goal.operate-requires
 operate-requires c =
-    let s = c in
-    let w = good-operation s.requires c.if-kind-eq0.false in
-    (w.0, w.1, w.2, s.requires.shown, few s.requires)
+    let s = c.requires in
+    let o = there-is s c.if-kind-eq0.false in ((good-operation s o.0 o.1).0, few s)
 
 pub returns : goal.returns
 returns c =
-    let s = c in
-    operation-enters s.requires c.if-kind-eq0.false c.operate.ensures
+    let o = there-is c.requires c.if-kind-eq0.false in operation-enters c.requires o.0 o.1 c.operate.ensures

@@ -8,10 +8,10 @@ returns-in-Value c =
     let w = c in
     let s = w in
     let e = c.in-Value.is in
-    λ zs stands. value-goes s.requires.1 w.work.ensures e stands c.finish.ensures
+    λ zs stands. value-goes s.requires.1 w.work-reached.ensures e stands c.finish.ensures
 
 pub returns-in-Within : goal.returns-in-Within
 returns-in-Within c =
     let w = c in
     let s = w in
-    λ zs stands. phase-goes s.requires.1 w.work.ensures c.in-Within.is stands
+    λ zs stands. phase-goes s.requires.1 w.work-reached.ensures c.in-Within.is stands

@@ -1,97 +1,127 @@
--- `search::among` meets its contract. The outer invariant: every block before this one is passed. The inner one: no
--- place before this one is overflowed. The ways out of the outer loop are its own end and the exit from within the
--- inner one.
+-- `search::among` meets its contract. The outer invariant: every block before this one is passed, and nothing is found.
+-- The inner one: no place before this one is overflowed.
 -- Assumes nothing.
 use mathlib.Core.Path.{◌≡◌, ap, sym, ◌∙◌, subst}
-use mathlib.Core.List.{List}
-use Prim.Native.Nat.{ℕ, ◌+◌, ◌-◌, ◌*◌, ◌≤◌}
+use mathlib.Core.List.{[], ◌∷◌, ◌++◌}
+use Prim.Native.Nat.{◌+◌, ◌*◌, ◌<◌}
 use native.Mathlib.Omega.{arith}
 use borrow.Author.Tests.{eqb-false}
-use lib.ListN.{length, get_or, take, drop}
+use lib.ListN.{length, length-append, drop}
+use Rattle.std.specs.Prelude.{Ok}
+use Rattle.std.specs.Iterator.Adapters.{enumerate_count, enumerate_source}
+use Rattle.std.specs.Slice.Iter.{chunks_exact_rest, chunks_exact_size}
 use Rattle.checked.specs.Paper.{number_of}
+use Rattle.checked.specs.declared.refusal.RefusedAt.{RefusedAt}
 use Rattle.checked.proofs.Unique.{not-zero}
+use Rattle.places.specs.Faults.{NoFaultBefore}
 use Rattle.places.proofs.Faults.{no-fault-before-more}
-use Rattle.layout.specs.Editions.{block_length, one}
+use Rattle.layout.specs.Editions.{block_length}
 use Rattle.layout.specs.Layout.{edition_of}
 use Rattle.layout.specs.Sound.{fault_of}
-use Rattle.layout.specs.Runs.{block_at}
 use Rattle.layout.proofs.Layouts.{sound-sizes}
-use Rattle.layout.proofs.Runs.{block-taken, block-length}
-use Rattle.block.specs.declared.types.Sound.{Sound}
-use Rattle.block.specs.declared.types.Sound.TheVariants as answers
-use Rattle.block.specs.Answers.{looked, sound_of}
-use Rattle.search.specs.Search.{found_at, end_at, Quiet, OverflowsFirstAt}
-use Rattle.search.proofs.Walks.{no-marks-quiet, bad-ends, found-ends, none-ends}
+use Rattle.layout.specs.Runs.{blocks, block_at}
+use Rattle.search.specs.Answers.{searched}
+use Rattle.search.specs.Search.{Searched, refused, end_at, Quiet, OverflowsFirstAt}
+use Rattle.search.proofs.Walks.{no-marks-quiet, block-cut, bad-ends, found-ends, none-ends}
 use Rattle.search.proofs.Ends.{passes-quiet}
-use Rattle.search.proofs.search.among.Goals.{then-not-unmarked+else-loop-i-test, else-not-unmarked, else-search-test, then-search-test+in-Sound+then-not-unmarked+then-loop-i-test+then-block-i-eq1}
+use Rattle.search.proofs.search.among.Goals.{In-Some, In_default}
 use Rattle.search.proofs.search.among.Goals as goal
 
--- the block at a position, as it is taken from the run
-abbrev block : List ℕ → ℕ → List ℕ
-block run p = take (block_length * p + block_length - block_length * p) (drop (block_length * p) run)
+abbrev told : RefusedAt → Searched
+told e = refused (number_of e.refusal) e.place
 
-sound-here : (b : List ℕ) (s : Sound) → looked s ≡ sound_of b → s ≡ answers.Sound → fault_of b ≡ 0
-sound-here b s e i = ap (λ s. s.code) (sym e ∙ ap looked i)
-
-pub returns-in-Refused : goal.returns-in-Refused
-returns-in-Refused c =
+-- the item is the block at its position in the run, no block before it ends the search, and what is left goes on after it
+here
+    : (c : In-Some) → let run = c.args.run.now in
+    let p = c.in-Some.position in
+    (p ≡ length c.search.yielded)
+    × NoFaultBefore (end_at run) p
+    × (c.in-Some.block.now ≡ block_at run p)
+    × (chunks_exact_rest (enumerate_source c.next.new.self) ≡ drop (block_length * (p + 1)) run)
+    × (p < blocks run)
+here c =
     let run = c.args.run.now in
-    let p = c.search.position in
-    let r = c.in-Refused.refusal in
-    let f : fault_of (block run p) ≡ number_of r =
-    ap (λ s. s.code) (sym c.sound.ensures ∙ ap looked c.in-Refused.is) in
-    bad-ends run c.args.blocks c.requires p c.search.invariant.0 (number_of r) c.search-test.true
-    (ap fault_of (sym (block-taken run p)) ∙ f) (eqb-false (number_of r) 0 (not-zero r))
+    let p = c.in-Some.position in
+    let (passed, at, size, rest, _) = c.search.invariant in
+    let (step, place, _, _) = c.in-Some.ensures.steps in
+    let e : p ≡ length c.search.yielded = place ∙ at in
+    let cut =
+    block-cut run p (rest ∙ ap (λ k. drop (block_length * k) run) (sym e)) step.1.0 (step.1.1 ∙ size) in (
+      e,
+      subst (NoFaultBefore (end_at run)) (sym e) passed,
+      cut.0,
+      cut.1,
+      cut.2,
+    )
 
-pub bounds-block-i : goal.bounds-block-i
-bounds-block-i c =
+is-sound : (c : In_default) → fault_of c.in-Some.block.now ≡ 0
+is-sound c = ap (λ s. s.code) (sym c.in_default.ensures)
+
+-- after a quiet block the next one is where the outer invariant has it
+kept
+    : (c : In-Some) → Quiet c.in-Some.block.now →
     let run = c.args.run.now in
-    let p = c.search.position in
-    let b = block run p in
-    let count : get_or b 4 0 ≤ one.most =
-    (sound-sizes (edition_of b) b (sound-here b c.sound.result c.sound.ensures c.in-Sound.is)).1 in
-    let whole : length b ≡ block_length =
-    ap length (block-taken run p) ∙ block-length run c.args.blocks c.requires p c.search-test.true in
-    omega (arith, count, whole)
+    let now = c.search.yielded ++ ((c.in-Some.position, c.in-Some.block) ∷ []) in
+    NoFaultBefore (end_at run) (length now)
+    × (enumerate_count c.next.new.self ≡ length now)
+    × (chunks_exact_size (enumerate_source c.next.new.self) ≡ block_length)
+    × (chunks_exact_rest (enumerate_source c.next.new.self) ≡ drop (block_length * length now) run)
+kept c quiet =
+    let run = c.args.run.now in
+    let p = c.in-Some.position in
+    let (e, passed, block, left, _) = here c in
+    let (step, _, counted, _) = c.in-Some.ensures.steps in
+    let more = no-fault-before-more (end_at run) p passed (passes-quiet (block_at run p) (subst Quiet block quiet)) in
+    let n : length (c.search.yielded ++ (p, c.in-Some.block) ∷ []) ≡ p + 1 =
+    omega (arith, length-append c.search.yielded ((p, c.in-Some.block) ∷ []), e) in (
+      subst (NoFaultBefore (end_at run)) (sym n) more,
+      omega (arith, counted, c.search.invariant.1, n, e),
+      step.0 ∙ c.search.invariant.2,
+      left ∙ ap (λ k. drop (block_length * k) run) (sym n),
+    )
+
+pub returns-in-Err : goal.returns-in-Err
+returns-in-Err c =
+    let r = c.in-Err.refusal in
+    let (_, passed, block, _, within) = here (goal.at.returns-in-Err c).In-Some in
+    let f : fault_of c.in-Some.block.now ≡ number_of r = ap (λ s. s.code) (sym c.in-Err.ensures) in
+    ap told c.at.ensures
+    ∙ bad-ends c.args.run.now c.requires c.in-Some.position passed (number_of r) within
+    (ap fault_of (sym block) ∙ f) (eqb-false (number_of r) 0 (not-zero r))
+
+pub bounds-block-place : goal.bounds-block-place
+bounds-block-place c =
+    let b = c.in-Some.block.now in
+    omega (arith, sound-sizes (edition_of b) b (is-sound (goal.at.bounds-block-place c).In_default))
+
+pub search-preserved-in-loop-place : goal.search-preserved-in-loop-place
+search-preserved-in-loop-place c =
+    let at = goal.at.search-preserved-in-loop-place c in
+    let quiet : Quiet c.in-Some.block.now =
+    (is-sound at.In_default, λ i h. c.loop-place.invariant.0 i (omega (arith, c.loop-place-test.false))) in
+    let k = kept at.In-Some quiet in (k.0, k.1, k.2, k.3, c.loop-place.invariant.2)
 
 pub search-preserved : goal.search-preserved
 search-preserved c =
-    let run = c.args.run.now in
-    let p = c.search.position in
-    let b = block run p in
-    let z = sound-here b c.sound.result c.sound.ensures c.in-Sound.is in
-    let quiet : Quiet b =
-    elim c.if-not-unmarked.branch [
-      | then-not-unmarked+else-loop-i-test w ↦
-          (z, λ i h. w.loop-i.invariant.0 i (omega (arith, w.loop-i-test.false)))
-      | else-not-unmarked w ↦ no-marks-quiet b z (sym c.unmarked.ensures ∙ w.if-not-unmarked.false)
-    ] in (
-      no-fault-before-more (end_at run) p c.search.invariant.0
-          (passes-quiet (block_at run p) (subst Quiet (block-taken run p) quiet)),
-      omega arith,
-    )
+    let at = goal.at.search-preserved c in
+    let quiet : Quiet c.in-Some.block.now =
+    no-marks-quiet c.in-Some.block.now (is-sound at.In_default) (sym c.unmarked.ensures ∙ c.if-not-unmarked.false) in
+    let k = kept at.In-Some quiet in (k.0, k.1, k.2, k.3, c.search.invariant.4)
 
-pub returns-then-position-blocks : goal.returns-then-position-blocks
-returns-then-position-blocks c =
-    let run = c.args.run.now in
-    let p = c.search.position in
-    let b = block run p in
-    elim c.search-test.branch [
-      | else-search-test w ↦ absurd (omega (arith, w.search-test.false, c.if-position-blocks.true))
-      | then-search-test+in-Sound+then-not-unmarked+then-loop-i-test+then-block-i-eq1 w ↦
-          let i = w.loop-i.i in
-          let f : OverflowsFirstAt b i = (w.loop-i-test.true, w.if-block-i-eq1.true, w.loop-i.invariant.0) in
-          let z = sound-here b w.sound.result w.sound.ensures w.in-Sound.is in
-          ap (found_at p) w.place-is
-          ∙ found-ends run c.args.blocks c.requires p c.search.invariant.0 i w.search-test.true
-          (ap fault_of (sym (block-taken run p)) ∙ z) (subst (λ b. OverflowsFirstAt b i) (block-taken run p) f)
-    ]
+pub returns-in-None : goal.returns-in-None
+returns-in-None c =
+    let (passed, _, size, rest, nothing) = c.search.invariant in
+    let (step, _) = c.in-None.ensures.steps in
+    ap (λ f. searched (Ok f)) nothing
+    ∙ none-ends c.args.run.now c.requires (length c.search.yielded) passed
+    (omega (arith, step.1.0, size, ap length rest))
 
-pub returns : goal.returns
-returns c =
-    elim c.search-test.branch [
-      | else-search-test w ↦
-          none-ends c.args.run.now c.args.blocks c.requires c.search.position c.search.invariant.0 w.search-test.false
-      | then-search-test+in-Sound+then-not-unmarked+then-loop-i-test+then-block-i-eq1 w ↦
-          absurd (omega (arith, w.search-test.true, c.if-position-blocks.false))
-    ]
+pub returns-then-block-place-eq1 : goal.returns-then-block-place-eq1
+returns-then-block-place-eq1 c =
+    let at = goal.at.returns-then-block-place-eq1 c in
+    let i = c.loop-place.place in
+    let (_, passed, block, _, within) = here at.In-Some in
+    let f : OverflowsFirstAt c.in-Some.block.now i =
+    (c.loop-place-test.true, c.if-block-place-eq1.true, c.loop-place.invariant.0) in
+    found-ends c.args.run.now c.requires c.in-Some.position passed i within
+    (ap fault_of (sym block) ∙ is-sound at.In_default) (subst (λ b. OverflowsFirstAt b i) block f)

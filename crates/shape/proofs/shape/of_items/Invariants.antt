@@ -1,14 +1,9 @@
--- `shape::of_items` meets its contract. The invariant: the answer from item i on, with `held` values on hand, is the whole answer.
+-- The answer from item i on, with `held` values on hand, is the whole answer.
 -- Assumes nothing.
-use mathlib.Core.Path.{◌≡◌}
-use Prim.Native.Nat.{◌-◌, ◌≤◌}
-use lib.ListN.{length, drop}
+use Rattle.std.proofs.Common.{◌≡◌, drop}
 use Rattle.shape.specs.Items.{items}
 use Rattle.shape.specs.Shape.{shape_from}
 use Rattle.shape.proofs.shape.of_items.Given as goal
 
 abbrev pub invariant-loop-i : goal.invariant-loop-i
-invariant-loop-i l = (shape_from l.limit l.i l.held (drop l.i (items l.kinds l.numbers)) ≡ shape_from l.limit 0 0 (items l.kinds l.numbers)) × (l.i ≤ length l.kinds)
-
-abbrev pub decreases-loop-i : goal.decreases-loop-i
-decreases-loop-i l = length l.kinds - l.i
+invariant-loop-i l = shape_from l.limit l.i l.held (drop l.i (items l.kinds l.numbers)) ≡ shape_from l.limit 0 0 (items l.kinds l.numbers)

@@ -2,14 +2,10 @@
 -- was.
 -- Assumes nothing.
 use mathlib.Core.Path.{◌≡◌}
-use Prim.Native.Nat.{◌-◌, ◌≤◌}
-use lib.ListN.{length, take}
+use lib.ListN.{take}
 use lib.Seq.{sets}
 use Rattle.little.specs.Bytes.{longs}
 use Rattle.store.proofs.bytes.put_longs.Given as goal
 
 abbrev pub invariant-loop-i : goal.invariant-loop-i
-invariant-loop-i l = (l.b ≡ sets l.initial.b l.at (longs (take l.i l.numbers))) × (length l.b ≡ length l.initial.b) × (l.i ≤ length l.numbers)
-
-abbrev pub decreases-loop-i : goal.decreases-loop-i
-decreases-loop-i l = length l.numbers - l.i
+invariant-loop-i l = l.b ≡ sets l.initial.b l.at (longs (take l.i l.numbers))

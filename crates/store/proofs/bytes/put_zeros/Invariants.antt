@@ -1,15 +1,10 @@
--- `bytes::put_zeros` meets its contract. The invariant: the first i zeros are stored, and the list is as long as it
--- was.
+-- `bytes::put_zeros` meets its contract. The invariant: the first i zeros are stored.
 -- Assumes nothing.
 use mathlib.Core.Path.{◌≡◌}
-use Prim.Native.Nat.{◌-◌, ◌≤◌}
-use lib.ListN.{length, get_or, replicate}
+use lib.ListN.{get_or, replicate}
 use lib.Seq.{sets}
 use Rattle.places.specs.Places.{table}
 use Rattle.store.proofs.bytes.put_zeros.Given as goal
 
 abbrev pub invariant-loop-i : goal.invariant-loop-i
-invariant-loop-i l = (l.b ≡ sets l.initial.b l.at (table (λ j. get_or (replicate l.count 0) j 0) l.i)) × (length l.b ≡ length l.initial.b) × (l.i ≤ l.count)
-
-abbrev pub decreases-loop-i : goal.decreases-loop-i
-decreases-loop-i l = l.count - l.i
+invariant-loop-i l = l.b ≡ sets l.initial.b l.at (table (λ j. get_or (replicate l.count 0) j 0) l.i)

@@ -1,9 +1,9 @@
 -- `turn::put_values` meets its contract. The invariant: the first i numbers are the readings' values, and nothing past
 -- them is written.
 -- Assumes nothing.
-use mathlib.Core.Path.{refl, sym}
+use mathlib.Core.Path.{sym}
 use native.Mathlib.Omega.{arith}
-use lib.ListN.{length, length-set}
+use lib.ListN.{length}
 use Rattle.places.proofs.Every.{every-at}
 use Rattle.places.proofs.Tables.{over-none}
 use Rattle.places.proofs.Copies.{copy-turn}
@@ -11,9 +11,7 @@ use Rattle.turn.specs.Wholes.{is_whole_at, value_at}
 use Rattle.turn.proofs.turn.put_values.Goals as goal
 
 pub loop-i-init : goal.loop-i-init
-loop-i-init c =
-    let g = c.args in
-    (sym (over-none (value_at g.level.now) g.numbers.now), refl, omega arith)
+loop-i-init c = let g = c.args in sym (over-none (value_at g.level.now) g.numbers.now)
 
 pub value-requires : goal.value-requires
 value-requires c =
@@ -22,9 +20,6 @@ value-requires c =
 
 pub loop-i-preserved : goal.loop-i-preserved
 loop-i-preserved c =
-    let g = c.args in (
-      copy-turn (value_at g.level.now) g.numbers.now c.loop-i.numbers c.loop-i.i c.loop-i.invariant.0
-          c.value.result c.value.ensures (omega arith),
-      simp length-set c.loop-i.invariant.1,
-      omega arith,
-    )
+    let g = c.args in
+    copy-turn (value_at g.level.now) g.numbers.now c.loop-i.numbers c.loop-i.i c.loop-i.invariant
+    c.value.result c.value.ensures (omega arith)

@@ -2,14 +2,9 @@
 -- them is written.
 -- Assumes nothing.
 use mathlib.Core.Path.{◌≡◌}
-use Prim.Native.Nat.{◌-◌, ◌≤◌}
-use lib.ListN.{length}
 use Rattle.places.specs.Places.{over}
 use Rattle.turn.specs.Wholes.{value_at}
 use Rattle.turn.proofs.turn.put_values.Given as goal
 
 abbrev pub invariant-loop-i : goal.invariant-loop-i
-invariant-loop-i l = (l.numbers ≡ over (value_at l.level) l.i l.initial.numbers) × (length l.numbers ≡ length l.initial.numbers) × (l.i ≤ length l.level)
-
-abbrev pub decreases-loop-i : goal.decreases-loop-i
-decreases-loop-i l = length l.level - l.i
+invariant-loop-i l = l.numbers ≡ over (value_at l.level) l.i l.initial.numbers

@@ -12,8 +12,8 @@ returns-then-x c =
     let x = c.args.x in
     sym (ap (λ t. cond t x (sub binary32 (add binary32 x room) room)) c.if-x.true)
 
-pub returns : goal.returns
+pub returns-else-x : goal.returns-else-x
 unfolding of_bits
-returns c =
+returns-else-x c =
     let x = c.args.x in
     sym (ap (λ t. cond t x (sub binary32 (add binary32 x room) room)) c.if-x.false)

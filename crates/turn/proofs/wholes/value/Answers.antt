@@ -18,6 +18,6 @@ float_to_int-result c =
 pub overflow_cast-result : goal.overflow_cast-result
 overflow_cast-result c = omega (arith, to_unsigned-lt 32 c.args.x)
 
-pub returns : goal.returns
+pub returns-else-x : goal.returns-else-x
 unfolding of_bits
-returns c = cast-is c.args.x c.requires c.if-x.false
+returns-else-x c = cast-is c.args.x c.requires c.if-x.false

@@ -1,13 +1,12 @@
 -- `write::lay_all` meets its contract. The invariant: the run begins with the blocks before this position and goes on
 -- as it was.
 -- Assumes nothing.
-use mathlib.Core.Path.{refl}
-use Prim.Native.Nat.{◌+◌, ◌*◌, ◌<◌}
+use Prim.Native.Nat.{◌*◌, ◌<◌}
 use native.Mathlib.Omega.{arith}
 use lib.ListN.{length}
 use Rattle.layout.specs.Editions.{one}
 use Rattle.written.proofs.Counts.{begins-within}
-use Rattle.write.proofs.Walks.{none-laid, block-turn, overlaid-long, all-laid}
+use Rattle.write.proofs.Walks.{none-laid, block-turn, all-laid}
 use Rattle.write.proofs.write.lay_all.Goals.{In-loop-position}
 use Rattle.write.proofs.write.lay_all.Goals as goal
 
@@ -23,8 +22,7 @@ pub loop-position-init : goal.loop-position-init
 loop-position-init c =
     let s = c in
     let g = s.args in
-    let none = none-laid one (omega arith) g.first g.numbers.now g.marks.now g.run.now s.requires.0 in
-    (none, refl, omega arith)
+    none-laid one (omega arith) g.first g.numbers.now g.marks.now g.run.now s.requires.0
 
 pub slice_bounds-lay-count : goal.slice_bounds-lay-count
 slice_bounds-lay-count c = omega (arith, within (goal.at.slice_bounds-lay-count c).In-loop-position)
@@ -44,16 +42,10 @@ loop-position-preserved c =
     let s = l in
     let g = s.args in
     let p = l.loop-position.position in
-    let lesser = c.lesser-end in
-    let turned =
+    let end = c.min-end in
     block-turn one (omega arith) g.first g.numbers.now g.marks.now g.run.now s.requires.0 p
-    lesser.result l.loop-position.invariant.0 lesser.ensures (omega (arith, s.requires.2))
-    c.lay.ensures in (
-      turned,
-      overlaid-long one (omega arith) g.first g.numbers.now g.marks.now g.run.now s.requires.0 (p + 1)
-          turned (omega (arith, s.requires.2)),
-      omega arith,
-    )
+    end.result l.loop-position.invariant end.ensures (omega (arith, s.requires.2))
+    c.lay.ensures
 
 pub returns : goal.returns
 returns c =
@@ -61,4 +53,4 @@ returns c =
     let s = c in
     let g = s.args in
     all-laid one (omega arith) g.first g.numbers.now g.marks.now g.run.now s.requires.0 l.position
-    l.invariant.0 (omega (arith, s.requires.1))
+    l.invariant (omega (arith, s.requires.1))

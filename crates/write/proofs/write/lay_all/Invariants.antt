@@ -2,17 +2,10 @@
 -- as it was.
 -- Assumes nothing.
 use mathlib.Core.Path.{◌≡◌}
-use Prim.Native.Nat.{◌-◌, ◌≤◌}
-use lib.ListN.{length}
 use Rattle.places.specs.Places.{chained, overlaid}
 use Rattle.layout.specs.Editions.{one}
 use Rattle.written.specs.Run.{field_block}
 use Rattle.write.proofs.write.lay_all.Given as goal
 
 abbrev pub invariant-loop-position : goal.invariant-loop-position
-invariant-loop-position l = (l.run ≡ overlaid (chained (field_block one l.first l.numbers l.marks) l.position) l.initial.run)
-    × (length l.run ≡ length l.initial.run)
-    × (l.position ≤ l.blocks)
-
-abbrev pub decreases-loop-position : goal.decreases-loop-position
-decreases-loop-position l = l.blocks - l.position
+invariant-loop-position l = l.run ≡ overlaid (chained (field_block one l.first l.numbers l.marks) l.position) l.initial.run
