@@ -50,7 +50,7 @@ end program
 def code_names():
     """The code's refusals: number and name, as the code spells it."""
     text = (ROOT / "crates" / "checked" / "src" / "refusal.rt").read_text()
-    return {int(number): name for name, number in re.findall(r"Refusal::(\w+) => (\d+),", text)}
+    return {int(number): name for name, number in re.findall(r"^    (\w+) = (\d+),$", text, re.M)}
 
 
 def table():

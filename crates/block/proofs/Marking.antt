@@ -1,14 +1,18 @@
 -- The marks of a block looked at: what the tests say of the layout.
 -- Assumes nothing.
-use mathlib.Core.Path.{◌≡◌, ap₂, sym}
-use mathlib.Core.Bool.{true, ◌&&◌}
+use mathlib.Core.Path.{◌≡◌, ap₂, sym, subst}
+use mathlib.Core.Bool.{Bool, true, false, ◌&&◌}
 use mathlib.Core.List.{List}
-use Prim.Native.Nat.{ℕ, ◌+◌, ◌*◌, ◌≤◌}
+use Prim.Native.Nat.{ℕ, ◌+◌, ◌*◌, ◌≤◌, ◌<◌}
 use native.Mathlib.Omega.{arith}
 use borrow.Author.Tests.{leb-true}
 use lib.Dec.{eqb, leb}
+use lib.ListN.{length, get_or}
+use Rattle.std.specs.Prelude.{MatchBool}
+use Rattle.std.specs.List.{AllWithin, HoldsAt, range_with_len}
+use Rattle.std.proofs.lemmas.List.FromFn.{length-range_with_len, get_or-range_with_len}
 use Rattle.places.specs.Places.{every}
-use Rattle.places.proofs.Every.{both-hold, same-truth, every-of}
+use Rattle.places.proofs.Every.{both-hold, same-truth, every-of, every-fails}
 use Rattle.little.specs.Zeros.{zeros}
 use Rattle.little.proofs.Zeros.{zeros-at, zeros-within, zeros-joined}
 use Rattle.field.proofs.Marks.{marked-0}
@@ -60,3 +64,25 @@ marks-decide E b e c z n = same-truth (marks_fine E.first b (count b)) (has_layo
     laid h =
         let l = layout-parts E b h in
         ap₂ ◌&&◌ (zeros-joined b (marks_at + count b) E.past check_at l.unused_marks l.zeros_past) l.marked
+
+-- every place, where `all` looked at a range of them
+pub all-of-range
+    : (f : ℕ → Bool) (n : ℕ) (r : Bool) →
+    MatchBool r
+    (AllWithin (λ i. f i ≡ true) (range_with_len 0 n) 0 (length (range_with_len 0 n)))
+    ((k : ℕ) × (k < length (range_with_len 0 n)) × HoldsAt (λ i. f i ≡ false) (range_with_len 0 n) k) →
+    r ≡ every f n
+all-of-range f n true h =
+    sym
+    (every-of f n
+    (λ j l.
+    subst (λ i. f i ≡ true) {x = get_or (range_with_len 0 n) j 0} {y = j}
+    (omega (arith, get_or-range_with_len 0 n j 0 l))
+    (h j 0 (omega arith) (omega (arith, length-range_with_len 0 n)))))
+all-of-range f n false h =
+    let l : h.0 < n = omega (arith, h.1, length-range_with_len 0 n) in
+    sym
+    (every-fails f n h.0 l
+    (subst (λ i. f i ≡ false) {x = get_or (range_with_len 0 n) h.0 0} {y = h.0}
+    (omega (arith, get_or-range_with_len 0 n h.0 0 l))
+    (h.2 0)))

@@ -1,4 +1,5 @@
-// Numbers of four and eight bytes, from a place of the block on.
+// Numbers of four and eight bytes, from a place of the block on. They are taken byte by byte: of a part of a list
+// std gives an `Option` or a `Result`, which would need an answer for none.
 ghost use Rattle.std.specs.Prelude.{◌≡◌, ◌+◌, ◌≤◌, length};
 ghost use Rattle.little.specs.Bytes.{part, little};
 

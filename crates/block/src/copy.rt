@@ -1,4 +1,6 @@
-// Writes a block's numbers and marks into the lent lists, and nothing past them.
+// Writes a block's numbers and marks into the lent lists, and nothing past them. The block is a slice whose length is
+// asked: `read` has its list as it was lent, and to make an array of it once more would need an answer for where that
+// fails.
 ghost use Rattle.std.specs.Prelude.{◌≡◌, ◌+◌, ◌*◌, ◌≤◌, length};
 ghost use Rattle.places.specs.Places.{over};
 ghost use Rattle.layout.specs.Editions.{block_length, marks_at};
@@ -7,7 +9,7 @@ ghost use Rattle.layout.specs.Layout.{number_from, mark};
 use crate::bytes::long_at;
 use layout::MARKS_AT;
 
-// The numbers begin at place `first`.
+// The numbers begin at place `first`. They go by places, since a number is known from its place in the block.
 pub(crate) fn copy_numbers(b: &[u8], first: usize, count: usize, numbers: &mut [u64])
     requires { (length b.now ≡ block_length) × (first + 8 * count ≤ marks_at) × (count ≤ length numbers.old) }
     ensures { numbers.new ≡ over (number_from first b.now) count numbers.old }

@@ -31,7 +31,8 @@ fn values(block: &[u8], numbers: &mut [u64], marks: &mut [u8]) -> Result<Head, R
     })
 }
 
-// The block's number and count, with its values written; or 16, 17, 18 or 19.
+// The block's number and count, with its values written; or 16, 17, 18 or 19. The values go into two lists, numbers
+// and marks, as a host lends them.
 pub fn read(block: &[u8], numbers: &mut [u64], marks: &mut [u8]) -> Result<Head, Refusal>
     ensures result_value { reading result ≡ reading_of block.now numbers.old marks.old }
     ensures numbers_new { numbers.new ≡ numbers_after block.now numbers.old marks.old }

@@ -14,6 +14,7 @@ use little::bytes::all_zero;
 
 // A mark of 0, or of 1 with the number 0, where the numbers begin at place `first`. Block, `first` and `count` are no type of
 // their own: one that holds what `marks_fine` and `copy_numbers` ask would be made twice and taken apart in each of them.
+// `first` stays a parameter, since the definitions speak of any edition.
 fn well_marked(b: &[u8; BLOCK_LENGTH], first: usize, i: usize) -> bool
     requires { first + 8 * i < marks_at }
     ensures { result ≡ place_well_marked first b.now i }
@@ -22,17 +23,12 @@ fn well_marked(b: &[u8; BLOCK_LENGTH], first: usize, i: usize) -> bool
     mark == 0 || mark == 1 && long_at(b, first + 8 * i) == 0
 }
 
-// The marks in use, one by one.
+// The marks in use, one by one, up to the first bad one.
 fn all_well_marked(b: &[u8; BLOCK_LENGTH], first: usize, count: usize) -> bool
     requires { first + 8 * count ≤ marks_at }
     ensures { result ≡ every (place_well_marked first b.now) count }
 {
-    for i in 0..count {
-        if !well_marked(b, first, i) {
-            return false;
-        }
-    }
-    true
+    (0..count).all(|i| well_marked(b, first, i))
 }
 
 // The marks, used and unused, and the zeros after them. Most blocks have no mark at all, which one look over all of

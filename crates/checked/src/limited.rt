@@ -1,5 +1,5 @@
 // The operations over a limit that is given as a number: the four widths share them, and so does whoever learns the width only
-// when running.
+// when running. They are named with it in docs/ENTRIES.md, so it is a parameter of each.
 ghost use Rattle.std.specs.Prelude.{◌≡◌, ℕ, ◌+◌, ◌*◌, ◌%◌, ◌^◌, ◌≤◌, ◌<◌, max, min};
 ghost use Rattle.whole.specs.Logarithm.{log_of};
 ghost use Rattle.checked.specs.declared.types.Checked.TheVariants.{Fits, Overflowed};
@@ -39,6 +39,7 @@ pub fn checked_add(limit: u64, a: u64, b: u64) -> Checked64
 }
 
 // The product of two numbers. Where both are below 2^32, as they mostly are, one test says so, and nothing can wrap.
+// docs/SPEED.md has the forms that were timed in its place.
 pub fn checked_mul(limit: u64, a: u64, b: u64) -> Checked64
     ensures { result ≡ checked_of limit (a * b) }
 {

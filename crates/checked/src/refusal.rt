@@ -1,61 +1,62 @@
-// Why a call is refused. `number_of` of specs/Paper.antt gives each case its number, from 1 to 24 in this order.
+// Why a call is refused. The numbers are those of `number_of` of specs/Paper.antt.
 ghost use Rattle.std.specs.Prelude.{◌≡◌};
 ghost use Rattle.checked.specs.Paper.{number_of};
 
 #[derive(Clone, Copy, Debug, PartialEq, Eq)]
 pub enum Refusal {
     // divisor 0, both fit
-    DivisorZero,
+    DivisorZero = 1,
     // base below 2, both fit
-    BaseBelowTwo,
+    BaseBelowTwo = 2,
     // overflowed left of a quotient or a remainder, argument of a logarithm, place of a field, or value that is asked
     // for its plain number
-    Overflowed,
+    Overflowed = 3,
     // signed quotient doesn't fit
-    QuotientTooLarge,
+    QuotientTooLarge = 4,
     // width not 8, 16, 32, 64
-    UnknownWidth,
+    UnknownWidth = 5,
     // lent lists of one recipe, row or field differ in length
-    LengthsDiffer,
+    LengthsDiffer = 6,
     // recipe of 0 items or above 256, or row of 0 operations or above 4,096
-    ItemCount,
+    ItemCount = 7,
     // unknown kind, literal in a row, or operation with a number not 0
-    UnknownKind,
+    UnknownKind = 8,
     // literal above M
-    LiteralTooLarge,
+    LiteralTooLarge = 9,
     // operation with fewer than two values on hand
-    TooFewOnHand,
+    TooFewOnHand = 10,
     // literal that would be the 33rd on hand
-    HandFull,
+    HandFull = 11,
     // recipe ends with more than one value
-    SeveralLeft,
+    SeveralLeft = 12,
     // recipe ends with none
-    NoneLeft,
+    NoneLeft = 13,
     // field empty
-    FieldEmpty,
+    FieldEmpty = 14,
     // mark not 0 or 1, or overflowed with number not 0
-    BadMark,
+    BadMark = 15,
     // block not 512 bytes, or run not a multiple of 512
-    BlockLength,
+    BlockLength = 16,
     // check wrong
-    WrongCheck,
+    WrongCheck = 17,
     // edition, count, a byte that must be zero, a mark, or an overflowed value with a number
-    BadLayout,
+    BadLayout = 18,
     // lent result list shorter than what would be written
-    ListTooShort,
+    ListTooShort = 19,
     // allowance spent
-    AllowanceSpent,
+    AllowanceSpent = 20,
     // block number that would pass 2^32 - 1
-    BlockNumberTooLarge,
+    BlockNumberTooLarge = 21,
     // reading that is NaN or infinite
-    UnusableReading,
+    UnusableReading = 22,
     // reading that isn't a whole number from 0 to 16,777,215
-    NotWhole,
+    NotWhole = 23,
     // sound block with another number
-    OtherBlockNumber,
+    OtherBlockNumber = 24,
 }
 
-// Why a call is refused, and at which place.
+// Why a call is refused, and at which place; a whole list is refused at place 0, since an entry for C tells a place with
+// every refusal.
 #[derive(Clone, Copy, Debug, PartialEq, Eq)]
 pub struct RefusedAt {
     pub refusal: Refusal,
@@ -85,31 +86,6 @@ impl From<Refusal> for u32 {
     ghost from_gives = { λ refusal n. n ≡ number_of refusal };
 
     fn from(refusal: Refusal) -> u32 {
-        match refusal {
-            Refusal::DivisorZero => 1,
-            Refusal::BaseBelowTwo => 2,
-            Refusal::Overflowed => 3,
-            Refusal::QuotientTooLarge => 4,
-            Refusal::UnknownWidth => 5,
-            Refusal::LengthsDiffer => 6,
-            Refusal::ItemCount => 7,
-            Refusal::UnknownKind => 8,
-            Refusal::LiteralTooLarge => 9,
-            Refusal::TooFewOnHand => 10,
-            Refusal::HandFull => 11,
-            Refusal::SeveralLeft => 12,
-            Refusal::NoneLeft => 13,
-            Refusal::FieldEmpty => 14,
-            Refusal::BadMark => 15,
-            Refusal::BlockLength => 16,
-            Refusal::WrongCheck => 17,
-            Refusal::BadLayout => 18,
-            Refusal::ListTooShort => 19,
-            Refusal::AllowanceSpent => 20,
-            Refusal::BlockNumberTooLarge => 21,
-            Refusal::UnusableReading => 22,
-            Refusal::NotWhole => 23,
-            Refusal::OtherBlockNumber => 24,
-        }
+        refusal as u32
     }
 }

@@ -1,5 +1,6 @@
 // A width: the unsigned numbers of so many bits, as whole numbers and as numbers of 64 bits. What is said and proved of
-// checked numbers is said and proved once, of any width.
+// checked numbers is said and proved once, of any width. Each width has an impl written out, since the project may have no
+// impl that a macro of its own writes.
 ghost use Rattle.std.specs.Prelude.{◌≡◌, ℕ, ◌≤◌};
 ghost use Rattle.checked.specs.declared.types.Checked.TheVariants.{Fits};
 ghost use Rattle.checked.specs.Value.{checked_of, limit_of, value_by};
@@ -31,7 +32,7 @@ pub trait Width: Copy {
 impl Width for u8 {
     ghost number = { λ n. n };
 
-    const LIMIT: u64 = 255;
+    const LIMIT: u64 = u8::MAX as u64;
 
     ghost LIMIT = { limit_of 8 };
 
@@ -52,7 +53,7 @@ impl Width for u8 {
 impl Width for u16 {
     ghost number = { λ n. n };
 
-    const LIMIT: u64 = 65535;
+    const LIMIT: u64 = u16::MAX as u64;
 
     ghost LIMIT = { limit_of 16 };
 
@@ -73,7 +74,7 @@ impl Width for u16 {
 impl Width for u32 {
     ghost number = { λ n. n };
 
-    const LIMIT: u64 = 4294967295;
+    const LIMIT: u64 = u32::MAX as u64;
 
     ghost LIMIT = { limit_of 32 };
 

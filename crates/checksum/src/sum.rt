@@ -9,7 +9,9 @@ ghost use Rattle.checksum.specs.Rows.{Small, all_more, rows_more, column_weight}
 
 use layout::{BLOCK_LENGTH, CHECK_AT};
 
-// One row more, the 64 bytes from place `at` on.
+// One row more, the 64 bytes from place `at` on. A slice: of an array that is lent the check has no bound for each
+// byte. The two sums of a column are no struct, so that each array is one list of numbers. The loops go by places: here
+// one place is of three lists, and below a place is also what its number weighs.
 fn add_row(b: &[u8], at: usize, all: &mut [u16; 64], rows: &mut [u16; 64])
     requires { (at + 64 ≤ length b.now) × (length b.now ≤ block_length) × Small all.old rows.old }
     ensures all_new { all.new ≡ all_more b.now at all.old }
@@ -45,7 +47,8 @@ fn own(b: &[u8]) -> u32
     sum
 }
 
-// The sum over i from 0 to 507 of (i + 1) times byte i; a list of another length is no block and has 0.
+// The sum over i from 0 to 507 of (i + 1) times byte i; a list of another length is no block and has 0, as
+// docs/ENTRIES.md promises.
 pub fn check_sum(b: &[u8]) -> u32
     ensures { result ≡ block_sum b.now }
 {

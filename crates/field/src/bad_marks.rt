@@ -34,7 +34,8 @@ fn all_well_marked(numbers: &[u64], marks: &[u8]) -> bool
     most <= 1 && any == 0
 }
 
-// The earliest place with a bad mark, or how many numbers there are, looked for place by place.
+// The earliest place with a bad mark, or how many numbers there are, looked for place by place. The count stands
+// for none, as `first_fault` of the definitions has it.
 fn walk(numbers: &[u64], marks: &[u8]) -> usize
     ensures { result ≡ first_fault (mark_fault_at numbers.now marks.now) (length numbers.now) }
 {
@@ -46,6 +47,7 @@ fn walk(numbers: &[u64], marks: &[u8]) -> usize
 
 // The earliest place with a bad mark, or how many numbers there are; a number without a mark has none. Most fields have
 // no mark set, and nearly all others no bad one: each is told by a look over all places, and only then are they walked.
+// The count stands for none, as docs/ENTRIES.md says, so this is no `Option`.
 pub fn first_bad(numbers: &[u64], marks: &[u8]) -> usize
     ensures { result ≡ first_fault (mark_fault_at numbers.now marks.now) (length numbers.now) }
 {

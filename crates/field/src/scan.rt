@@ -11,7 +11,8 @@ use checked::refusal::{Refusal, RefusedAt};
 use little::bytes::all_zero;
 
 // The range of a field. The lists' lengths come first. Most fields have no mark set, which a look over all of them
-// shows; only then is the first one looked for.
+// shows; only then is the first one looked for. A field is two lists, numbers and marks, as docs/ENTRIES.md says
+// and as a host lends them.
 pub fn scan(numbers: &[u64], marks: &[u8]) -> Result<Range, RefusedAt>
     ensures { scanned result ≡ scan_of numbers.now marks.now }
 {

@@ -9,7 +9,7 @@ use entry::room::too_short;
 use level::scan::scan;
 use turn::turn::turn;
 
-// The refusal's place, or 0.
+// The refusal's place, or 0. Each entry writes it, since its other numbers go into other lists.
 const PLACE_LENGTH: usize = 1;
 
 // The least and the greatest reading.

@@ -10,7 +10,8 @@ pub(crate) fn put_at<const N: usize>(answer: &mut [u64], at: usize, numbers: &[u
     answer[at..at + N].copy_from_slice(numbers);
 }
 
-// In the first places.
+// In the first places. An entry matches its answer itself, and puts numbers in both cases: a function that is given a
+// `Result` of them would want a closure in each entry to make them.
 pub(crate) fn put<const N: usize>(answer: &mut [u64], numbers: [u64; N])
     requires { N ≤ length answer.old }
     ensures { answer.new ≡ sets answer.old 0 numbers.entry }

@@ -16,7 +16,7 @@ pub fn razovinto_power_fits(base: u64, exponent: u64) -> u32
     u32::from(power_fits(base, exponent))
 }
 
-// The number is written and 0 returned, or the refusal's number is, and the list stays.
+// The number is written and 0 returned, or the refusal's number is, as C has it, and the list stays.
 fn put_signed(res: &mut [i64], divided: Result<i64, Refusal>) -> u32
     requires { 1 ≤ length res.old }
     ensures value { result ≡ signed_code (answer divided) res.old }

@@ -43,7 +43,8 @@ pub fn razovinto_shape(width: u64, kinds: &[u8], numbers: &[u64], answer: &mut [
     }
 }
 
-// The answer with the steps and the items done. A value has no place to tell.
+// The answer with the steps and the items done. A value has no place to tell. Here and in `put_run` the number for C is what is
+// left of the answer once the rest is written, and so it is returned.
 fn put_outcome(lent: &mut [u64], answer: Result<Checked64, RefusedAt>, steps: u64, done: u64) -> u32
     requires { 50 ≤ length lent.old }
     ensures value { result ≡ (answer_of answer).code }

@@ -1,11 +1,10 @@
-// A run's value and state in numbers.
-ghost use Rattle.std.specs.Prelude.{◌≡◌, ◌+◌, ◌≤◌, length};
-ghost use Rattle.little.specs.Bytes.{part, little};
+// A run's value and state in numbers, as C is shown them: a value is a mark and a number.
+ghost use Rattle.std.specs.Prelude.{◌≡◌, length};
+ghost use Rattle.little.specs.Bytes.{little};
 ghost use Rattle.recipe.specs.Run.{mark_of, number_in, phase_numbers};
 ghost use Rattle.hosts.specs.Answers.{phase_words, mark_words};
 
 use checked::types::Checked64;
-use little::bytes::long;
 use steps::types::Phase;
 
 pub(crate) fn mark_of(value: Checked64) -> u64
@@ -53,20 +52,10 @@ pub(crate) fn phase_words(phase: Phase) -> [u64; 9]
 }
 
 // Eight marks as one number, the first its lowest byte.
-fn eight_at(marks: &[u8; 32], at: usize) -> u64
-    requires { (at + 8 ≤ 32) × (length marks.now ≡ 32) }
-    ensures { result ≡ little (part at 8 marks.now) }
+fn eight(marks: &[u8; 8]) -> u64
+    ensures { result ≡ little marks.now }
 {
-    long(
-        marks[at],
-        marks[at + 1],
-        marks[at + 2],
-        marks[at + 3],
-        marks[at + 4],
-        marks[at + 5],
-        marks[at + 6],
-        marks[at + 7],
-    )
+    u64::from_le_bytes(*marks)
 }
 
 // The marks of the hand's places, bottom first. In memory they are 32 bytes.
@@ -74,10 +63,11 @@ pub(crate) fn mark_words(marks: &[u8; 32]) -> [u64; 4]
     requires { length marks.now ≡ 32 }
     ensures { result ≡ mark_words marks.now }
 {
+    let (eights, _) = marks.as_chunks::<8>();
     [
-        eight_at(marks, 0),
-        eight_at(marks, 8),
-        eight_at(marks, 16),
-        eight_at(marks, 24),
+        eight(&eights[0]),
+        eight(&eights[1]),
+        eight(&eights[2]),
+        eight(&eights[3]),
     ]
 }

@@ -23,7 +23,7 @@ fn finish(count: usize, marks: &[u8], block: &mut [u8])
 }
 
 // The block with this number and these values. A list that is no block stays, and so does a block for which the values
-// are too many, or numbers and marks not as many.
+// are too many, or numbers and marks not as many. The values are two lists, as a host lends them.
 pub fn lay(number: u32, numbers: &[u64], marks: &[u8], block: &mut [u8])
     ensures { block.new ≡ laid_over one number numbers.now marks.now block.old }
 {

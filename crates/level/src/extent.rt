@@ -21,7 +21,8 @@ fn float_of(rank: u32) -> f32
     f32::from_bits((0xffff_ffff - rank) + 1)
 }
 
-// The first zero from place `from` on, its sign kept.
+// The first zero from place `from` on, its sign kept. `find` over that part would need an arm for none as well, and
+// is no shorter.
 fn first_zero(level: &[f32], from: usize, to: usize) -> f32
     requires to_in_bounds { to ≤ length level.now }
     requires to_bound { place_of_rank level.now from to 2147483648 < to }
@@ -37,6 +38,7 @@ fn first_zero(level: &[f32], from: usize, to: usize) -> f32
 
 // What is kept of the float kept so far and of the readings from place `from` to before place `to`, by the rank that was
 // found for it: the float kept so far if that is its rank, and otherwise the first reading that has it.
+// It takes the whole level and two places, since what is kept is promised of places of the whole level.
 pub(crate) fn settle(level: &[f32], from: usize, to: usize, kept: f32, found: u32) -> f32
     requires { Settles level.now from to kept found }
     ensures { result ≡ settled level.now from to kept found }

@@ -25,7 +25,8 @@ fn fault(x: f32, mark: u8) -> Option<Refusal>
     }
 }
 
-// The refusal at the earliest place with a fault, which isn't before place `from`.
+// The refusal at the earliest place with a fault, which isn't before place `from`. The turning has the same walk
+// over its own faults; a line there says why. It goes by places, since it begins at a place of both lists.
 pub(crate) fn refuse(level: &[f32], grounds: &[u8], from: usize) -> RefusedAt
     requires level_len { length level.now ≡ length grounds.now }
     requires no_fault_before { NoFaultBefore (fault_at level.now grounds.now) from }

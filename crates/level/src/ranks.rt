@@ -9,8 +9,9 @@ use crate::types::Extent;
 use reading::seen::seen;
 use reading::types::Reading;
 
-// The ranks of the least and the greatest reading. Where a reading isn't usable the least is 0, which is no usable
-// reading's rank.
+// The ranks of the least and the greatest reading: no `Extent`, which has readings. Where a reading isn't usable the
+// least is 0, which is no usable reading's rank: a number and no `Option`, so that the loop compares whole numbers and
+// has no early exit.
 #[derive(Clone, Copy)]
 pub(crate) struct Ranks {
     pub least: u32,
@@ -30,6 +31,7 @@ pub(crate) fn rank(x: f32) -> u32
 }
 
 // The extent's ranks with those of the readings from place `from` to before place `to`. There is no early exit.
+// It goes by places, since what it promises is said of places of the whole level.
 pub(crate) fn ranked(level: &[f32], grounds: &[u8], from: usize, to: usize, extent: Extent) -> Ranks
     requires to_in_bounds { to ≤ length level.now }
     requires to_in_bounds_2 { to ≤ length grounds.now }

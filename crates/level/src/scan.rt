@@ -11,10 +11,12 @@ use crate::types::Extent;
 use checked::refusal::{Refusal, RefusedAt};
 use reading::marks::all_marked;
 
-// Readings to a part. The parts are walked by a `while`: each begins where the one before it ends, and the last is shorter.
+// Readings to a part. The parts are places of the level and no `chunks`: `ranked`, `settle` and `refuse` take the whole
+// level, and promise of it up to a place.
 const PART: usize = 4096;
 
-// The least and the greatest reading of a level. The lists' lengths come first, then the earliest place with a fault.
+// The least and the greatest reading of a level. The lists' lengths come first, then the earliest place with a fault. A
+// level is two lists, readings and ground marks, as a host lends them.
 pub fn scan(level: &[f32], grounds: &[u8]) -> Result<Extent, RefusedAt>
     ensures { scanned result ≡ scan_of level.now grounds.now }
 {
@@ -28,8 +30,8 @@ pub fn scan(level: &[f32], grounds: &[u8]) -> Result<Extent, RefusedAt>
         return Err(refuse(level, grounds, 0));
     }
     let mut extent = Extent {
-        least: f32::from_bits(0x7f80_0000),
-        greatest: f32::from_bits(0xff80_0000),
+        least: f32::INFINITY,
+        greatest: f32::NEG_INFINITY,
     };
     let mut at = 0;
     while at < level.len() {

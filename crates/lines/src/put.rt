@@ -1,5 +1,5 @@
 // A word or a number from a place of a lent line on. Each gives the place after what it put; where there is no room it puts
-// nothing, and the place stays.
+// nothing, and the place stays. docs/ENTRIES.md promises this place, so it is no `Option`.
 ghost use Rattle.std.specs.Prelude.{◌≡◌};
 ghost use Rattle.lines.specs.Line.{decimal, after, written};
 

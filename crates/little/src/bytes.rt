@@ -5,6 +5,7 @@ ghost use Rattle.std.specs.Prelude.{◌≡◌, [], ◌∷◌};
 ghost use Rattle.little.specs.Bytes.{little, byte_of};
 ghost use Rattle.little.specs.Zeros.{zeros};
 
+// The numbers of two, four and eight bytes. docs/ENTRIES.md names the three, and std has no trait over `from_le_bytes`.
 pub fn half(a: u8, b: u8) -> u16
     ensures { result ≡ little (a ∷ b ∷ []) }
 {
@@ -23,7 +24,8 @@ pub fn long(a: u8, b: u8, c: u8, d: u8, e: u8, f: u8, g: u8, h: u8) -> u64
     u64::from_le_bytes([a, b, c, d, e, f, g, h])
 }
 
-// Byte j of a number, from the lowest on; past the eighth every byte is 0.
+// Byte j of a number, from the lowest on; past the eighth every byte is 0. By a shift: of `to_le_bytes` a place past
+// the eighth would need its 0 just as well. docs/ENTRIES.md names the function.
 pub fn byte(number: u64, j: u64) -> u8
     ensures { result ≡ byte_of number j }
 {
@@ -35,6 +37,7 @@ pub fn byte(number: u64, j: u64) -> u8
 
 // Whether the bytes from place `from` to before place `to` are zero; what is past the list's end counts as zero.
 // There is no early exit: the bytes are joined by 'or', which a compiler does sixteen at a time.
+// They go by places: where `from` is past `to` there is no such slice, and no byte counts.
 pub fn all_zero(b: &[u8], from: usize, to: usize) -> bool
     ensures { result ≡ zeros from to b.now }
 {

@@ -60,7 +60,8 @@ fn begin_logarithm(limit: u64, left: Checked64, right: Checked64) -> Result<Prog
     }
 }
 
-// What an operation begins with on these two operands.
+// What an operation begins with on these two operands. The limit and both stay parameters: docs/ENTRIES.md has this function,
+// `begin` and `work` with them, and the private ones pass them on.
 pub fn begin_operation(
     limit: u64,
     operation: Operation,
@@ -79,12 +80,14 @@ pub fn begin_operation(
     }
 }
 
-// What the operation of a kind begins with on these two operands; what is no operation is refused with 8.
+// What the operation of a kind begins with on these two operands; what is no operation is refused with 8. It takes the code:
+// docs/ENTRIES.md names it, and any byte gets an answer.
 pub fn begin(limit: u64, kind: u8, left: Checked64, right: Checked64) -> Result<Progress, Refusal>
     ensures { outcome result ≡ begun_as limit (kind_of kind) left right }
 {
     // Sums and products apart from the others, by comparisons: of one match of all six a compiler makes a table of jumps,
-    // which took a quarter more time in recipes of five items of mixed kinds.
+    // which took a quarter more time in recipes of five items of mixed kinds. docs/SPEED.md has a bar of 1.20 of C's time for
+    // the runner, to which that one comes nearer.
     if kind < 3 {
         return match kind {
             1 => begin_operation(limit, Operation::Sum, left, right),

@@ -35,7 +35,8 @@ pub(crate) fn dividing(base: u64, left: u64, count: u64) -> Progress
 }
 
 // A power's further steps. Each takes a binary digit of the exponent, from the last one up; the square after the first
-// digit, which nobody sees, is not worked out.
+// digit, which nobody sees, is not worked out. The loop counts steps, and no index: the count is part of the answer, and stays
+// `from` where no step is left to take, so that a `for` would need it beside.
 pub(crate) fn power_on(limit: u64, p: Power, from: u64, allowance: u64) -> Reached
     ensures { reach_of result ≡ gone_on limit (allowance - from) from (steps.within (InPower p)) }
 {
@@ -67,7 +68,7 @@ pub(crate) fn power_on(limit: u64, p: Power, from: u64, allowance: u64) -> Reach
     }
 }
 
-// A logarithm's further steps. Each divides by the base, and counts one more.
+// A logarithm's further steps. Each divides by the base, and counts one more. Its loop counts steps as a power's does.
 pub(crate) fn logarithm_on(q: Logarithm, from: u64, allowance: u64) -> Reached
     requires { Sound q }
     ensures { (M : ℕ) → reach_of result ≡ gone_on M (allowance - from) from (steps.within (InLogarithm q)) }

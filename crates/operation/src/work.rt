@@ -29,7 +29,8 @@ fn sound_logarithm_on(q: Logarithm, from: u64, allowance: u64) -> Reached
 }
 
 // The further steps of an operation in this phase, after `from` steps of the run: a power's or a logarithm's, until it
-// has its value or the allowance is spent. Between items there is none to take.
+// has its value or the allowance is spent. Between items there is none to take. `from` and the allowance stay two numbers:
+// docs/ENTRIES.md has them so.
 pub fn work(limit: u64, phase: Phase, from: u64, allowance: u64) -> Reached
     ensures { reach_of result ≡ work_of limit phase from allowance }
 {

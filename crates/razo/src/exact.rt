@@ -1,5 +1,5 @@
-// Floats as exact decimals. Each float is one, if a long one at times, and a rounded decimal would show two readings that
-// differ as the same: so no digit is left out.
+// Floats as exact decimals. Each float is one, if a long one at times. README promises exact decimals, and std's
+// Display stops at the shortest that reads back the same.
 ghost use Rattle.std.specs.Prelude.{◌≤◌};
 
 use std::fmt;
@@ -7,15 +7,11 @@ use std::fmt;
 // The smallest float has 149 digits behind the point, and the greatest 39 before it.
 const DIGITS: usize = 152;
 
-// A digit times 0, 2 or 5.
+// A digit times a factor.
 fn product(digit: u8, factor: u8) -> u64
-    ensures { result ≤ 1275 }
+    ensures { result ≤ 65025 }
 {
-    match factor {
-        0 => 0,
-        2 => 2 * u64::from(digit),
-        _ => 5 * u64::from(digit),
-    }
+    u64::from(digit) * u64::from(factor)
 }
 
 // The number that decimal digits stand for, the lowest first, times a factor, and so much more.
@@ -28,11 +24,42 @@ fn multiply(digits: &mut [u8; DIGITS], factor: u8, more: u32) {
     }
 }
 
-// The digits of a size times a factor to the power of so many.
-fn raise(digits: &mut [u8; DIGITS], size: u32, factor: u8, times: u32) {
-    multiply(digits, 0, size);
+// The digits of a size times a factor to the power of so many, the lowest first.
+fn raised(size: u32, factor: u8, times: u32) -> [u8; DIGITS] {
+    let mut digits = [0u8; DIGITS];
+    multiply(&mut digits, 0, size);
     for _ in 0..times {
-        multiply(digits, factor, 0);
+        multiply(&mut digits, factor, 0);
+    }
+    digits
+}
+
+// A decimal's digits, the lowest first, with the point before the last `point` of them.
+#[derive(Clone, Copy)]
+struct Decimal {
+    digits: [u8; DIGITS],
+    point: usize,
+}
+
+impl fmt::Display for Decimal {
+    // Zeros that nothing stands before are left out, but for the last one before the point, and so are those that nothing but
+    // zeros stands after behind the point.
+    fn fmt<W: fmt::Write>(&self, f: &mut fmt::Formatter<W>) -> fmt::Result {
+        let point = self.point;
+        let digits = &self.digits;
+        let lowest = digits.iter().position(|digit| *digit != 0).unwrap_or(point);
+        let highest = digits
+            .iter()
+            .rposition(|digit| *digit != 0)
+            .unwrap_or(point);
+        for place in (lowest.min(point)..=highest.max(point)).rev() {
+            if place < point && place + 1 == point {
+                write!(f, ".")?;
+            }
+            let digit = digits.get(place).copied().unwrap_or(0);
+            write!(f, "{digit}")?;
+        }
+        Ok(())
     }
 }
 
@@ -48,39 +75,20 @@ impl fmt::Display for Exact {
             0 => (fraction, 1),
             scale => (fraction + 0x80_0000, scale),
         };
-        let mut digits = [0u8; DIGITS];
-        let point = if scale < 150 {
-            raise(&mut digits, size, 5, 150 - scale);
-            150 - scale
+        let decimal = if scale < 150 {
+            Decimal {
+                digits: raised(size, 5, 150 - scale),
+                point: (150 - scale) as usize,
+            }
         } else {
-            raise(&mut digits, size, 2, scale - 150);
-            0
+            Decimal {
+                digits: raised(size, 2, scale - 150),
+                point: 0,
+            }
         };
         if 0x8000_0000 <= self.0 {
             write!(f, "-")?;
         }
-        write_digits(f, &digits, point as usize)
+        write!(f, "{decimal}")
     }
-}
-
-// Digits with the point before the last `point` of them. Zeros that nothing stands before are left out, but for the last one
-// before the point, and so are those that nothing but zeros stands after behind the point.
-fn write_digits<W: fmt::Write>(
-    f: &mut fmt::Formatter<W>,
-    digits: &[u8; DIGITS],
-    point: usize,
-) -> fmt::Result {
-    let lowest = digits.iter().position(|digit| *digit != 0).unwrap_or(point);
-    let highest = digits
-        .iter()
-        .rposition(|digit| *digit != 0)
-        .unwrap_or(point);
-    for place in (lowest.min(point)..=highest.max(point)).rev() {
-        if place < point && place + 1 == point {
-            write!(f, ".")?;
-        }
-        let digit = digits.get(place).copied().unwrap_or(0);
-        write!(f, "{digit}")?;
-    }
-    Ok(())
 }

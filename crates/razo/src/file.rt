@@ -3,15 +3,13 @@ use crate::line::Line;
 use crate::status::Stop;
 use crate::system::{Streams, System};
 use crate::text::Report;
+use layout::BLOCK_LENGTH;
 use std::fs::File;
 use std::io;
 use std::io::{ErrorKind, Read};
 
 // How many bytes a part has: as many as a pipe holds, so that little time goes into calls.
 pub(crate) const PART: usize = 65536;
-
-// The bytes of a block.
-pub(crate) const BLOCK: usize = 512;
 
 // Standard input, or a file of a name. It stays open to this value's end, and standard input to the program's.
 #[derive(Drop)]
@@ -29,7 +27,8 @@ impl<S: Read, F: Read> Read for Source<S, F> {
     }
 }
 
-// A part's bytes: all that it has room for, or those up to the end of the input or to a read that failed.
+// A part's bytes: all that it has room for, or those up to the end of the input or to a read that failed. The last has bytes
+// too, so this is no `Result`.
 #[derive(Clone, Copy)]
 pub(crate) enum Filled<'a> {
     Full(&'a [u8]),
@@ -99,10 +98,11 @@ pub(crate) fn take<'a, R: Streams, F: Read>(
 
 // The bytes of whole blocks, and those after them.
 pub(crate) fn in_whole_blocks(bytes: &[u8]) -> (&[u8], &[u8]) {
-    bytes.split_at(bytes.len() - bytes.len() % BLOCK)
+    bytes.split_at(bytes.len() - bytes.len() % BLOCK_LENGTH)
 }
 
-// A count that goes on. No input is long enough for it to stay where it is.
+// A count that goes on. No input is long enough for it to stay where it is, and the largest number, which `saturating_add` has
+// there, would be no count at all.
 pub(crate) fn count_on(counted: u64, more: u64) -> u64 {
     counted.checked_add(more).unwrap_or(counted)
 }

@@ -1,7 +1,7 @@
 // The least and the greatest reading of a level, whose floats and ground marks stand in two files, part by part. Which of
 // its refusals comes first is known when both files have ended: their lengths come before their places.
 use crate::exact::Exact;
-use crate::file::{PART, STANDARD, count_on, open, take};
+use crate::file::{PART, STANDARD, Source, count_on, open, take};
 use crate::line::Line;
 use crate::reason::Reason;
 use crate::status::{Status, Stop};
@@ -24,21 +24,22 @@ struct Behind {
     scan: Result<Extent, RefusedAt>,
 }
 
+// One of a level's files, and where what is wrong with it is told.
+#[derive(Drop)]
+struct Side<'a, R, F> {
+    report: Report<'a, R>,
+    input: F,
+}
+
 // A level's floats, and its ground marks unless all of it is in the air.
 #[derive(Drop)]
-struct Inputs<R> {
-    values: R,
-    ground: Option<R>,
+struct Level<'a, R, F> {
+    values: Side<'a, R, F>,
+    ground: Option<Side<'a, R, F>>,
 }
 
-// Where what is wrong with either file is told.
-#[derive(Drop)]
-struct Level<'a, R> {
-    values: Report<'a, R>,
-    ground: Report<'a, R>,
-}
-
-// The float with these bits. All NaNs are one: which it was is no matter for any answer.
+// The float with these bits. All NaNs are one: which it was is no matter for any answer. replay has the same function: one use
+// in each, too little for a crate.
 #[tactic(auto, using(std::proofs::lemmas::Float::not_nan_f32_bits))]
 fn float_of(bits: u32) -> f32 {
     if 0x7f80_0000 < bits % 0x8000_0000 {
@@ -138,15 +139,22 @@ fn say_extent(rt: &impl Streams, extent: Extent) -> Result<Status, Stop> {
     Ok(Status::Well)
 }
 
-impl<R: Streams> Level<'_, R> {
-    // A mark's place is one of the file of marks.
+impl<R: Streams, F: Read> Side<'_, R, F> {
+    // The file's next part.
+    fn take<'b>(&mut self, part: &'b mut [u8]) -> Result<&'b [u8], Stop> {
+        take(&self.report, &mut self.input, part)
+    }
+}
+
+impl<R: Streams, F: Read> Level<'_, R, F> {
+    // A mark's place is one of the file of marks. Where there is none, no mark is bad.
     fn complain_place(&self, refused: RefusedAt) -> Stop {
         let place = refused.place;
         let reason = Reason(refused.refusal);
         let what = format_args!(": place {place}: {reason}\n");
-        match refused.refusal {
-            Refusal::BadMark => self.ground.complain(what),
-            _ => self.values.complain(what),
+        match (refused.refusal, &self.ground) {
+            (Refusal::BadMark, Some(ground)) => ground.report.complain(what),
+            _ => self.values.report.complain(what),
         }
     }
 
@@ -157,7 +165,7 @@ impl<R: Streams> Level<'_, R> {
         let readings = bytes / 4;
         if bytes % 4 != 0 {
             return Err(
-                self.values.complain(format_args!(
+                self.values.report.complain(format_args!(
                     ": {bytes} bytes are no whole number of readings, of 4 bytes each\n"
                 )),
             );
@@ -165,36 +173,31 @@ impl<R: Streams> Level<'_, R> {
         if readings != marks {
             let reason = Reason(Refusal::LengthsDiffer);
             return Err(
-                self.values.complain(format_args!(
+                self.values.report.complain(format_args!(
                     ": {readings} readings, {marks} ground marks: {reason}\n"
                 )),
             );
         }
         if readings == 0 {
             let reason = Reason(Refusal::FieldEmpty);
-            return Err(self.values.complain(format_args!(": {reason}\n")));
+            return Err(self.values.report.complain(format_args!(": {reason}\n")));
         }
         match all.scan {
-            Ok(extent) => say_extent(self.values.rt, extent),
+            Ok(extent) => say_extent(self.values.report.rt, extent),
             Err(refused) => Err(self.complain_place(refused)),
         }
     }
 
     // The ground marks of the next part. Where there is no file of them, as many zeros as readings are taken for them.
-    fn take_marks<'a, F: Read>(
-        &self,
-        input: &mut Option<F>,
-        marks: &'a mut [u8],
-        readings: usize,
-    ) -> Result<&'a [u8], Stop> {
-        match input {
-            Some(input) => take(&self.ground, input, marks),
+    fn take_marks<'b>(&mut self, marks: &'b mut [u8], readings: usize) -> Result<&'b [u8], Stop> {
+        match &mut self.ground {
+            Some(ground) => ground.take(marks),
             None => Ok(first(marks, readings)),
         }
     }
 
     // Nothing says that a file ends, but no file has so many parts.
-    fn scan_parts<F: Read>(&self, inputs: &mut Inputs<F>) -> Result<Status, Stop> {
+    fn scan_parts(&mut self) -> Result<Status, Stop> {
         let mut part = [0u8; PART];
         let mut marks = [0u8; READINGS];
         let mut behind = Behind {
@@ -206,8 +209,8 @@ impl<R: Streams> Level<'_, R> {
             }),
         };
         for _ in 0..u64::MAX {
-            let bytes = take(&self.values, &mut inputs.values, &mut part)?;
-            let ground = self.take_marks(&mut inputs.ground, &mut marks, bytes.len() / 4)?;
+            let bytes = self.values.take(&mut part)?;
+            let ground = self.take_marks(&mut marks, bytes.len() / 4)?;
             behind = behind.look(bytes, ground);
             if bytes.len() < PART && ground.len() < READINGS {
                 return self.conclude(behind);
@@ -222,31 +225,34 @@ const VALUES: usize = 2;
 
 const GROUND: usize = 3;
 
+// The file that a word of the command line names, opened.
+fn opened<'a, R: System>(
+    rt: &'a R,
+    index: usize,
+    name: &'a [u8],
+) -> Result<Side<'a, R, Source<R::Reader, R::File>>, Stop> {
+    let report = Report::new(rt, name);
+    match open(rt, index, name) {
+        Ok(input) => Ok(Side { report, input }),
+        Err(error) => Err(report.fail(error)),
+    }
+}
+
 // The files of these names.
-pub(crate) fn level_command(
-    rt: &impl System,
-    values: &[u8],
-    ground: Option<&[u8]>,
+pub(crate) fn level_command<'a, R: System>(
+    rt: &'a R,
+    values: &'a [u8],
+    ground: Option<&'a [u8]>,
 ) -> Result<Status, Stop> {
-    let level = Level {
-        values: Report::new(rt, values),
-        ground: Report::new(rt, ground.unwrap_or(b"")),
-    };
-    let mut inputs = match open(rt, VALUES, values) {
-        Ok(values) => Inputs {
-            values,
-            ground: None,
-        },
-        Err(error) => return Err(level.values.fail(error)),
+    let mut level = Level {
+        values: opened(rt, VALUES, values)?,
+        ground: None,
     };
     if let Some(ground) = ground {
         if values == STANDARD && ground == STANDARD {
             return Err(complain(rt, "razo: '", values, "' can't be both VALUES and GROUND\n"));
         }
-        match open(rt, GROUND, ground) {
-            Ok(input) => inputs.ground = Some(input),
-            Err(error) => return Err(level.ground.fail(error)),
-        }
+        level.ground = Some(opened(rt, GROUND, ground)?);
     }
-    level.scan_parts(&mut inputs)
+    level.scan_parts()
 }

@@ -3,7 +3,7 @@ use lines::put;
 use std::fmt;
 
 // The text is the first `end` bytes. Its parts need not be UTF-8, since a file's name may have any bytes. What there is no
-// room for is left out.
+// room for is left out. Not a `Vec`: the program uses no heap.
 #[derive(Drop)]
 pub(crate) struct Line<const N: usize> {
     bytes: [u8; N],

@@ -56,7 +56,8 @@ impl Command {
     }
 }
 
-// What is done with a file of blocks; or with one of numbers, whose first block gets this number.
+// What is done with a file of blocks; or with one of numbers, whose first block gets this number. An enum: a
+// closure would have to name the type of the input.
 #[derive(Clone, Copy, Debug, PartialEq, Eq)]
 enum Work {
     Search,
@@ -145,7 +146,8 @@ fn on_level(rt: &impl System, words: usize) -> Result<Status, Stop> {
     level_command(rt, values, Some(ground))
 }
 
-// Does what so many words of the command line ask, the program's name among them.
+// Does what so many words of the command line ask, the program's name among them. `rt` and the count are two arguments: most
+// calls take `rt` alone, so a struct of both would soon be taken apart.
 fn obey(rt: &impl System, words: usize) -> Result<Status, Stop> {
     if words < 2 {
         return Err(usage(rt));

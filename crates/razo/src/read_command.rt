@@ -1,5 +1,5 @@
 // A line for each block of a file, part by part.
-use crate::file::{BLOCK, Filled, PART, count_on, fill, in_whole_blocks};
+use crate::file::{Filled, PART, count_on, fill, in_whole_blocks};
 use crate::line::Line;
 use crate::reason::Reason;
 use crate::status::{Status, Stop};
@@ -10,6 +10,7 @@ use block::types::Head;
 use checked::refusal::Refusal;
 use field::scan::scan;
 use field::types::Range;
+use layout::{BLOCK_LENGTH, one};
 use std::io::Read;
 use std::{fmt, io};
 
@@ -17,7 +18,7 @@ use std::{fmt, io};
 const LINES: usize = PART;
 
 // A block has at most so many values.
-const VALUES: usize = 55;
+const VALUES: usize = one::MOST;
 
 // How many blocks were read, how many of them are bad, and how many have overflowed values.
 #[derive(Clone, Copy)]
@@ -110,7 +111,7 @@ impl Listing {
         let mut numbers = [0u64; VALUES];
         let mut marks = [0u8; VALUES];
         self.lines.clear();
-        for block in run.chunks(BLOCK) {
+        for block in run.chunks(BLOCK_LENGTH) {
             self.list_block(block, &mut numbers, &mut marks);
         }
         report.write(self.lines.as_bytes())
@@ -143,7 +144,8 @@ impl Listing {
 const COLUMNS: &[u8] =
     b"  position      number  count  overflowed                 least              greatest  width\n";
 
-// Nothing says that a file ends, but no file has so many parts.
+// Nothing says that a file ends, but no file has so many parts. The walk is that of `search_command`: what is done with a part
+// and at the end differs, so one walk for both would need a trait of its own, and be no shorter.
 pub(crate) fn read_parts<R: Streams>(
     report: &Report<'_, R>,
     input: &mut impl Read,

@@ -6,7 +6,7 @@ use crate::show::Shown;
 use crate::status::{Status, Stop};
 use crate::system::System;
 use crate::text::{LONGEST_WORD, complain, word_at};
-use crate::words::{Word, kind_of, word_of};
+use crate::words::{NoWord, Word, kind_of, word_of};
 use recipe::run::run;
 use std::fmt;
 use std::fmt::Display;
@@ -16,13 +16,6 @@ const TAKEN: usize = 257;
 
 // How many words stand before a recipe's.
 const BEFORE: usize = 4;
-
-// An item of a recipe: an operation's kind with the number 0, or a literal's number with the kind 0.
-#[derive(Clone, Copy)]
-struct Item {
-    kind: u8,
-    number: u64,
-}
 
 // How a complaint about the item at a place begins.
 #[derive(Clone, Copy)]
@@ -42,28 +35,24 @@ pub(crate) fn number_at(rt: &impl System, index: usize, before: &'static str) ->
     let mut space = [0u8; LONGEST_WORD];
     let said = word_at(rt, index, &mut space, before)?;
     match word_of(said) {
-        Word::Number(number) => Ok(number),
-        Word::TooLarge => Err(complain(rt, before, said, TOO_LARGE)),
-        Word::Operation(_) | Word::Neither => {
+        Ok(Word::Number(number)) => Ok(number),
+        Err(NoWord::TooLarge) => Err(complain(rt, before, said, TOO_LARGE)),
+        Ok(Word::Operation(_)) | Err(NoWord::Neither) => {
             Err(complain(rt, before, said, "', is not a number\n"))
         }
     }
 }
 
-// The item at a place of the recipe.
-fn item_at(rt: &impl System, place: usize) -> Result<Item, Stop>
+// The item at a place of the recipe: a literal or an operation.
+fn item_at(rt: &impl System, place: usize) -> Result<Word, Stop>
     requires { place ≤ 257 }
 {
     let mut space = [0u8; LONGEST_WORD];
     let said = word_at(rt, place + BEFORE, &mut space, ItemAt(place))?;
     match word_of(said) {
-        Word::Number(number) => Ok(Item { kind: 0, number }),
-        Word::Operation(operation) => Ok(Item {
-            kind: kind_of(operation),
-            number: 0,
-        }),
-        Word::TooLarge => Err(complain(rt, ItemAt(place), said, TOO_LARGE)),
-        Word::Neither => Err(complain(
+        Ok(item) => Ok(item),
+        Err(NoWord::TooLarge) => Err(complain(rt, ItemAt(place), said, TOO_LARGE)),
+        Err(NoWord::Neither) => Err(complain(
             rt,
             ItemAt(place),
             said,
@@ -86,10 +75,12 @@ pub(crate) fn run_command(rt: &impl System, words: usize) -> Result<Status, Stop
     let count = (words - BEFORE).min(TAKEN);
     let mut kinds = [0u8; TAKEN];
     let mut numbers = [0u64; TAKEN];
+    // The lists have zeros: a literal has the kind 0, and an operation the number 0.
     for place in 0..count {
-        let item = item_at(rt, place)?;
-        kinds[place] = item.kind;
-        numbers[place] = item.number;
+        match item_at(rt, place)? {
+            Word::Number(number) => numbers[place] = number,
+            Word::Operation(operation) => kinds[place] = kind_of(operation),
+        }
     }
     let shown = Shown {
         run: run(width, &kinds[..count], &numbers[..count], allowance),

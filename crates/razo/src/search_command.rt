@@ -1,18 +1,20 @@
 // The search of a file of blocks, part by part.
-use crate::file::{BLOCK, Filled, PART, count_on, fill, in_whole_blocks};
+use crate::file::{Filled, PART, count_on, fill, in_whole_blocks};
 use crate::reason::Reason;
 use crate::status::{Status, Stop};
 use crate::system::Streams;
 use crate::text::{Blocks, Report};
+use layout::BLOCK_LENGTH;
 use search::search::search;
 use search::types::Spot;
 use std::io;
 use std::io::Read;
 
 // How many blocks lie behind after a run of them, with so many before it. The search ends with what is found.
+// `report` and `behind` stay arguments: a struct as `Listing` would have nothing but this number.
 fn search_run<R: Streams>(report: &Report<'_, R>, run: &[u8], behind: u64) -> Result<u64, Stop> {
     match search(run) {
-        Ok(None) => Ok(count_on(behind, (run.len() / BLOCK) as u64)),
+        Ok(None) => Ok(count_on(behind, (run.len() / BLOCK_LENGTH) as u64)),
         Ok(Some(Spot { position, place })) => {
             let block = count_on(behind, position);
             report.say(format_args!("overflowed: block {block}, place {place}\n"))?;

@@ -37,7 +37,7 @@ impl Display for Place {
     }
 }
 
-// The places in use, from the bottom up.
+// The places in use, from the bottom up: two lists, as a `Run` has them.
 #[derive(Clone, Copy)]
 struct Hand<'a> {
     numbers: &'a [u64],

@@ -40,6 +40,7 @@ pub(crate) fn ended(outcome: Result<Status, Stop>) -> io::Result<Status> {
 // Says the status as a digit on descriptor 3, where the script `razo` reads it. std opens no descriptor by its number, but
 // the system has a name for each.
 pub(crate) fn say_status(files: &impl Files, status: Status) {
+    // By a match: the order of the statuses is for the worst of several, and the digits are for the script.
     let digit = match status {
         Status::Well => b'0',
         Status::Found => b'1',

@@ -102,6 +102,7 @@ impl Display for Blocks {
 }
 
 // Where the lines that tell of a file go: to standard output, behind the file's name where there are several files.
+// `named` says so, and the name is no `Option`: complaints name a single file too.
 #[derive(Drop)]
 pub(crate) struct Report<'a, R> {
     pub(crate) rt: &'a R,
@@ -152,7 +153,8 @@ impl<'a, R: Streams> Report<'a, R> {
         complain(self.rt, "razo: ", self.name, what)
     }
 
-    // One line on standard error about a word of the file, with what stands before and after it.
+    // One line on standard error about a word of the file, with what stands before and after it. The file's
+    // name comes first, and it need not be text, so it is no part of `before`.
     pub(crate) fn complain_word(
         &self,
         before: impl Display + Drop,

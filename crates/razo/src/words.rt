@@ -14,7 +14,7 @@ fn operation_named(said: &[u8]) -> Option<Operation> {
     }
 }
 
-// The kind that a recipe has for an operation.
+// The kind that a recipe has for an operation: the way back of `TryFrom<u8>` in `shape::kind`.
 pub(crate) fn kind_of(operation: Operation) -> u8 {
     match operation {
         Operation::Sum => 1,
@@ -30,8 +30,14 @@ pub(crate) fn kind_of(operation: Operation) -> u8 {
 #[derive(Clone, Copy, Debug, PartialEq, Eq)]
 pub(crate) enum Word {
     Number(u64),
-    TooLarge,
     Operation(Operation),
+}
+
+// Why a word says nothing.
+#[derive(Clone, Copy, Debug, PartialEq, Eq)]
+pub(crate) enum NoWord {
+    // digits of a number that isn't below 2^64
+    TooLarge,
     Neither,
 }
 
@@ -39,7 +45,8 @@ fn is_decimal(said: &[u8]) -> bool {
     !said.is_empty() && said.iter().all(|byte| byte.is_ascii_digit())
 }
 
-// The number that decimal digits stand for, if it is below 2^64.
+// The number that decimal digits stand for, if it is below 2^64. `parse` wants a
+// text, for which each byte would be looked at once more.
 fn value_of(digits: &[u8]) -> Option<u64> {
     digits.iter().try_fold(0u64, |number, byte| {
         let digit = u64::from(byte.saturating_sub(b'0'));
@@ -48,9 +55,11 @@ fn value_of(digits: &[u8]) -> Option<u64> {
 }
 
 // Digits are looked for first: they are soon told, and a file has many numbers.
-pub(crate) fn word_of(said: &[u8]) -> Word {
+pub(crate) fn word_of(said: &[u8]) -> Result<Word, NoWord> {
     if !is_decimal(said) {
-        return operation_named(said).map_or(Word::Neither, Word::Operation);
+        let operation = operation_named(said).ok_or(NoWord::Neither)?;
+        return Ok(Word::Operation(operation));
     }
-    value_of(said).map_or(Word::TooLarge, Word::Number)
+    let number = value_of(said).ok_or(NoWord::TooLarge)?;
+    Ok(Word::Number(number))
 }

@@ -6,7 +6,7 @@ use crate::reason::Reason;
 use crate::status::{Status, Stop};
 use crate::system::Streams;
 use crate::text::{LONGEST_WORD, Report, TOO_LONG, first, shortened};
-use crate::words::{Word, word_of};
+use crate::words::{NoWord, Word, word_of};
 use checked::refusal::Refusal;
 use checked::types::Checked64;
 use std::fmt;
@@ -30,6 +30,15 @@ enum Fault {
     Neither,
 }
 
+impl From<NoWord> for Fault {
+    fn from(fault: NoWord) -> Self {
+        match fault {
+            NoWord::TooLarge => Fault::TooLarge,
+            NoWord::Neither => Fault::Neither,
+        }
+    }
+}
+
 impl Display for Fault {
     fn fmt<W: fmt::Write>(&self, f: &mut fmt::Formatter<W>) -> fmt::Result {
         f.write_str(match self {
@@ -50,10 +59,9 @@ fn value_of(said: &[u8]) -> Result<Checked64, Fault> {
     if said == OVERFLOWED {
         return Ok(Checked64::Overflowed);
     }
-    match word_of(said) {
+    match word_of(said)? {
         Word::Number(number) => Ok(Checked64::Fits(number)),
-        Word::TooLarge => Err(Fault::TooLarge),
-        Word::Operation(_) | Word::Neither => Err(Fault::Neither),
+        Word::Operation(_) => Err(Fault::Neither),
     }
 }
 
@@ -71,7 +79,8 @@ fn complain_refusal<R: Streams>(report: &Report<'_, R>, refusal: Refusal) -> Sto
     report.complain(format_args!(": {reason}\n"))
 }
 
-// The values that wait to be written, and the number of the block that the first of them goes into.
+// The values that wait to be written, and the number of the block that the first of them goes into. Two lists, as `write`
+// takes them, of a fixed size: the program uses no heap.
 #[derive(Drop)]
 struct Waiting {
     numbers: [u64; VALUES],
@@ -99,7 +108,8 @@ impl Waiting {
         }
     }
 
-    // One value more. Where there is no room, the blocks of those that wait are written first.
+    // One value more, as the number and the mark that the two lists have. Where there is no room, the blocks of those that wait
+    // are written first.
     fn push<R: Streams>(&mut self, report: &Report<'_, R>, value: Checked64) -> Result<(), Stop> {
         if VALUES <= self.held {
             self.write_out(report)?;
@@ -121,7 +131,8 @@ fn is_white(byte: u8) -> bool {
     matches!(byte, b' ' | b'\t' | b'\n' | b'\r')
 }
 
-// A part of the file. Of its bytes, those from `from` to before `to` are still to be taken. Then the line there.
+// A part of the file. Of its bytes, those from `from` to before `to` are still to be taken. Then the line there. std's
+// BufReader holds its part on the heap, and the program uses none.
 #[derive(Drop)]
 struct Words {
     part: [u8; PART],
@@ -140,7 +151,7 @@ impl Words {
         let bytes = first(&self.part, self.to);
         let mut from = self.from;
         let mut line = self.line;
-        // By places: `enumerate` and `skip` took eight instructions more a byte.
+        // By places: each is needed for the word too, and `enumerate` and `skip` are no plainer.
         for end in from..bytes.len() {
             let byte = bytes[end];
             if is_white(byte) {

@@ -29,7 +29,7 @@ fn put_value(res: &mut [u8], value: Checked64)
 }
 
 // The answer's value is written and 0 returned, or the refusal's number. A slice that is too short is refused whatever
-// the answer is.
+// the answer is. What is returned is a number, since the entries for C return it.
 pub(crate) fn put_answer(res: &mut [u8], answer: Result<Checked64, Refusal>) -> u32
     ensures value { result ≡ returned (paper answer) res.old }
     ensures res_new { res.new ≡ afterwards (paper answer) res.old }

@@ -1,5 +1,5 @@
 // The hand: 32 places from the bottom up, each a number and a mark, as a stopped run shows them. An array of checked
-// numbers would be twice as long to clear, and would be taken apart again for `Run`.
+// numbers would be nearly twice as long to clear, and would be taken apart again for `Run`.
 ghost use Rattle.std.specs.Prelude.{◌≡◌, List, [], ◌∷◌, ◌≤◌, ◌<◌, get_or, set, length};
 ghost use Rattle.recipe.specs.Run.{mark_of, number_in, places};
 ghost use Rattle.recipe.specs.Machine.{value_of};
@@ -59,8 +59,7 @@ impl Hand {
         take(&mut self.numbers, &mut self.marks, self.held)
     }
 
-    // Takes the top two, the left one from under the right. Here and in `push` the count is read once, so that it isn't
-    // waited for after a place is written.
+    // Takes the top two, the left one from under the right.
     pub(crate) fn operands(&mut self) -> (Checked64, Checked64)
         requires { 2 ≤ length self.old }
         ensures value { self.old ≡ result.1 ∷ result.0 ∷ self.new }

@@ -1,4 +1,5 @@
-// The machine: the run's state, with its phase, goes from item to item, as far as the allowance brings it.
+// The machine: the run's state, with its phase, goes from item to item, as far as the allowance brings it. Limit, lists and
+// hand are no struct: each function takes those that its promise speaks of.
 ghost use Rattle.std.specs.Prelude.{◌≡◌, List, [], ◌≤◌, ◌<◌, length};
 ghost use Rattle.shape.specs.Items.{Item, items, kind_of};
 ghost use Rattle.shape.specs.Shape.{Good};
@@ -60,8 +61,8 @@ fn enter(
     ensures { Enters limit from (items kinds.now numbers.now) done
         hand.old hand.new result }
 {
-    // The code itself is asked, and an operation's goes on to `begin`: a `Kind` made here is matched once more there, which
-    // took up to a quarter more time.
+    // The code itself is asked, and an operation's goes on to `begin`, which takes the code: a `Kind` made here would be matched
+    // twice, here and there. In a trial that took up to a quarter more time.
     let kind = kinds[done];
     if kind == 0 {
         let value = Checked64::Fits(numbers[done]);

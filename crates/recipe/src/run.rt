@@ -67,6 +67,8 @@ fn run_good(limit: u64, kinds: &[u8], numbers: &[u64], allowance: u64) -> Run
 }
 
 // The shape is looked at whole before anything runs; then the recipe runs until it is done, refused, or out of its allowance.
+// A recipe is two lists, as C lends them to `razovinto_run`, and its width is a number: docs/ENTRIES.md names `run`, and any
+// number and any two lists get an answer.
 pub fn run(width: u64, kinds: &[u8], numbers: &[u64], allowance: u64) -> Run
     ensures { paper result ≡ run_of width kinds.now numbers.now allowance }
 {

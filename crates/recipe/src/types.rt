@@ -5,7 +5,8 @@ use steps::types::Phase;
 
 // The answer, which is the recipe's value, or why there is none and at which place; the steps taken; and, where the
 // allowance was spent, the items wholly done, the hand from the bottom up and the phase. With any other answer those are
-// 0, empty and between items.
+// 0, empty and between items. All stand in every run, the hand as two arrays, since `razovinto_run` shows them to C whatever
+// the answer is.
 #[derive(Clone, Copy, Debug, PartialEq, Eq)]
 pub struct Run {
     pub answer: Result<Checked64, RefusedAt>,
@@ -25,7 +26,7 @@ pub struct State {
 }
 
 // How far an allowance brought a run: to its value or to a refused item, after how many steps, or to the state where it
-// stopped.
+// stopped. This is no `Result`: each of the three ends has numbers of its own.
 #[derive(Clone, Copy, Debug, PartialEq, Eq)]
 pub enum Driven {
     Finished(Checked64, u64),

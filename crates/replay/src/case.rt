@@ -80,8 +80,8 @@ impl<'a> Case<'a> {
     }
 }
 
-// The float with these bits. All NaNs are one: which it was is no matter for any answer. razo has the same function: the
-// two programs share `lines` alone, which is about text.
+// The float with these bits. All NaNs are one: which it was is no matter for any answer. razo has the same function: one use
+// in each, too little for a crate.
 #[tactic(auto, using(std::proofs::lemmas::Float::not_nan_f32_bits))]
 fn float_of(bits: u32) -> f32 {
     if 0x7f80_0000 < bits % 0x8000_0000 {

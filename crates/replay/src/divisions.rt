@@ -1,15 +1,15 @@
 // Row 6: quotient and remainder of signed numbers, at each width.
-use crate::answers;
 use crate::case::Case;
 use crate::line::Output;
 use crate::types::Fault;
+use checked::refusal::RefusedAt;
 use signed::divide;
 use signed::width::SignedWidth;
 use std::io::Write;
 
-// The code, the place, the sign and the size of a number.
-fn number(n: i64) -> [u64; 4] {
-    [0, 0, u64::from(n < 0), n.unsigned_abs()]
+// The sign and the size of a number.
+fn shown(n: i64) -> [u64; 2] {
+    [u64::from(n < 0), n.unsigned_abs()]
 }
 
 // What is asked of two numbers.
@@ -32,17 +32,22 @@ impl TryFrom<u8> for Asked {
 }
 
 // The answer at a width, which both numbers have to fit.
-fn divided<N: SignedWidth>(asked: Asked, a: i64, b: i64) -> Result<[u64; 4], Fault> {
+fn divided<N: SignedWidth>(
+    asked: Asked,
+    a: i64,
+    b: i64,
+) -> Result<Result<[u64; 2], RefusedAt>, Fault> {
     let a = N::narrow(a).ok_or(Fault::NotAllowed)?;
     let b = N::narrow(b).ok_or(Fault::NotAllowed)?;
     let answer = match asked {
         Asked::Quotient => divide::quotient(a, b),
         Asked::Remainder => divide::remainder(a, b),
     };
-    Ok(match answer {
-        Ok(n) => number(n.wide()),
-        Err(refusal) => answers::refused(refusal.at(0)),
-    })
+    Ok(
+        answer
+            .map(|n| shown(n.wide()))
+            .map_err(|refusal| refusal.at(0)),
+    )
 }
 
 // b width, b which (0 quotient, 1 remainder), q a, q b in two's complement.
@@ -59,6 +64,6 @@ pub(crate) fn replay<W: Write>(case: &mut Case<'_>, out: &mut Output<W>) -> Resu
         64 => divided::<i64>(asked, a, b)?,
         _ => return Err(Fault::NotAllowed),
     };
-    out.whole(&answer);
+    out.whole_answer(answer);
     Ok(())
 }

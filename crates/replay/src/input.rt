@@ -9,7 +9,9 @@ const LONGEST: usize = 139277;
 
 const ROOM: usize = 262144;
 
-// The bytes from `start` up to `end` are still to be used. `is_open` says that more may come.
+// The bytes from `start` up to `end` are still to be used. `is_open` says that more may come. It is no
+// `Option` of the reader: with the reader lent to it, the proof of the loop didn't close. std's BufReader holds its bytes
+// on the heap, and the program uses none.
 #[derive(Drop)]
 pub struct Input<R> {
     reader: R,

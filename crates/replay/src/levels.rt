@@ -1,10 +1,8 @@
 // Rows 10 and 11: a level's least and greatest reading, and the field that a level turns into. A case has readings as the
 // bits of floats.
-use crate::answers;
 use crate::case::{Case, lent, within};
 use crate::line::Output;
 use crate::types::{BYTE_BEFORE, Fault, MOST_VALUES, NUMBER_BEFORE};
-use checked::refusal::RefusedAt;
 use level::scan::scan;
 use level::types::Extent;
 use std::io::Write;
@@ -18,11 +16,8 @@ fn bits_of(x: f32) -> u64 {
     u64::from(x.to_bits())
 }
 
-fn scanned(answer: Result<Extent, RefusedAt>) -> [u64; 4] {
-    match answer {
-        Ok(extent) => [0, 0, bits_of(extent.least), bits_of(extent.greatest)],
-        Err(refused) => answers::refused(refused),
-    }
+fn shown(extent: Extent) -> [u64; 2] {
+    [bits_of(extent.least), bits_of(extent.greatest)]
 }
 
 // h n, h k, n × w of float bits, k ground marks.
@@ -34,15 +29,8 @@ pub(crate) fn replay_scan<W: Write>(case: &mut Case<'_>, out: &mut Output<W>) ->
     let mark_count = within(mark_count, MOST_VALUES)?;
     case.floats(level)?;
     let grounds = case.take(mark_count)?;
-    out.whole(&scanned(scan(level, grounds)));
+    out.whole_answer(scan(level, grounds).map(shown));
     Ok(())
-}
-
-fn turned(answer: Result<(), RefusedAt>) -> [u64; 2] {
-    match answer {
-        Ok(()) => [0, 0],
-        Err(refused) => [answers::code_of(refused.refusal), refused.place],
-    }
 }
 
 // h n, h k, h i, h j, n × w of float bits, k ground marks; the lent lists have i and j elements.
@@ -61,7 +49,7 @@ pub(crate) fn replay_turn<W: Write>(case: &mut Case<'_>, out: &mut Output<W>) ->
     case.floats(level)?;
     let grounds = case.take(ground_count)?;
     let answer = turn(level, grounds, numbers, marks);
-    out.start(&turned(answer));
+    out.answer(answer.map(|()| []));
     out.further(numbers);
     out.further(marks);
     out.end();

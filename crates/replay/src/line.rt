@@ -1,5 +1,6 @@
 // Lines of numbers. What is put waits until little room is left for more, and is then written out. After a write that failed
 // nothing is written.
+use checked::refusal::RefusedAt;
 use lines::put;
 use std::io;
 use std::io::Write;
@@ -81,6 +82,16 @@ impl<W: Write> Output<W> {
         }
     }
 
+    // An answer's first numbers: the code 0, the place 0 and what it tells; or a refusal's code and place, and zeros.
+    pub(crate) fn answer<const N: usize>(&mut self, told: Result<[u64; N], RefusedAt>) {
+        let (code, place, numbers) = match told {
+            Ok(numbers) => (0, 0, numbers),
+            Err(refused) => (u64::from(refused.refusal.number()), refused.place, [0; N]),
+        };
+        self.start(&[code, place]);
+        self.further(&numbers);
+    }
+
     // A line's end.
     pub(crate) fn end(&mut self) {
         self.make_room();
@@ -90,6 +101,12 @@ impl<W: Write> Output<W> {
     // A whole line.
     pub(crate) fn whole(&mut self, numbers: &[u64]) {
         self.start(numbers);
+        self.end();
+    }
+
+    // The whole line of an answer.
+    pub(crate) fn whole_answer<const N: usize>(&mut self, told: Result<[u64; N], RefusedAt>) {
+        self.answer(told);
         self.end();
     }
 

@@ -37,7 +37,7 @@ struct Replay<W> {
 }
 
 impl<W: Write> Replay<W> {
-    // A case, by its first byte.
+    // A case, by its first byte. A row takes the case and the output, and of the lists only those that it fills.
     fn replay(&mut self, case: &mut Case<'_>) -> Result<(), Fault> {
         match case.byte()? {
             1 => runs::replay(case, &mut self.numbers, &mut self.out),

@@ -4,6 +4,7 @@ use crate::case::Case;
 use crate::line::Output;
 use crate::types::Fault;
 use crate::values::Marked;
+use checked::refusal::RefusedAt;
 use checked::width::Width;
 use shape::kind::{Kind, Operation};
 use std::io::Write;
@@ -17,7 +18,7 @@ struct Asked {
 }
 
 impl Asked {
-    fn answer<N: Width>(self) -> Result<[u64; 4], Fault> {
+    fn answer<N: Width>(self) -> Result<Result<[u64; 2], RefusedAt>, Fault> {
         let left = self.left.value::<N>()?;
         let right = self.right.value::<N>()?;
         let answer = match self.operation {
@@ -28,7 +29,7 @@ impl Asked {
             Operation::Power => left.power(right),
             Operation::Logarithm => left.logarithm(right),
         };
-        Ok(answers::answered(answer.map_err(|refusal| refusal.at(0))))
+        Ok(answer.map(answers::marked).map_err(|refusal| refusal.at(0)))
     }
 }
 
@@ -53,6 +54,6 @@ pub(crate) fn replay<W: Write>(case: &mut Case<'_>, out: &mut Output<W>) -> Resu
         64 => asked.answer::<u64>()?,
         _ => return Err(Fault::NotAllowed),
     };
-    out.whole(&answer);
+    out.whole_answer(answer);
     Ok(())
 }

@@ -1,21 +1,16 @@
 // Row 3: a block is read into two lent lists, which are shown as they stand afterwards.
-use crate::answers;
 use crate::case::{Case, lent, within};
 use crate::line::Output;
 use crate::types::{Fault, MOST_ELEMENTS, NUMBER_BEFORE};
 use block::read::read;
 use block::types::Head;
-use checked::refusal::Refusal;
 use std::io::Write;
 
 // What stands in the lent list of marks before the reading. No block's mark is 9.
 const MARK_BEFORE: u8 = 9;
 
-fn shown(answer: Result<Head, Refusal>) -> [u64; 4] {
-    match answer {
-        Ok(Head { number, count }) => [0, 0, u64::from(number), count as u64],
-        Err(refusal) => [answers::code_of(refusal), 0, 0, 0],
-    }
+fn shown(head: Head) -> [u64; 2] {
+    [u64::from(head.number), head.count as u64]
 }
 
 // h n, h k, h j, n bytes of the block; the lent lists have k and j elements.
@@ -35,7 +30,7 @@ pub(crate) fn replay<W: Write>(
     numbers.fill(NUMBER_BEFORE);
     marks.fill(MARK_BEFORE);
     let answer = read(block, numbers, marks);
-    out.start(&shown(answer));
+    out.answer(answer.map(shown).map_err(|refusal| refusal.at(0)));
     out.further(numbers);
     out.further(marks);
     out.end();

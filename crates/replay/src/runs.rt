@@ -25,7 +25,7 @@ fn phase_of(phase: Phase) -> [u64; 6] {
 
 // The hand has mark and number of each place, bottom first.
 fn put_run<W: Write>(out: &mut Output<W>, run: Run) {
-    out.start(&answers::answered(run.answer));
+    out.answer(run.answer.map(answers::marked));
     out.further(&[run.steps, run.done]);
     out.further(&phase_of(run.phase));
     for (mark, number) in run.marks.iter().zip(&run.numbers) {

@@ -1,24 +1,13 @@
 // Row 2: the range of a field.
-use crate::answers;
 use crate::case::{Case, lent, within};
 use crate::line::Output;
 use crate::types::{Fault, MOST_ELEMENTS};
-use checked::refusal::RefusedAt;
 use field::scan::scan;
 use field::types::Range;
 use std::io::Write;
 
-fn shown(answer: Result<Range, RefusedAt>) -> [u64; 5] {
-    match answer {
-        Ok(
-            Range {
-                least,
-                greatest,
-                width,
-            },
-        ) => [0, 0, least, greatest, width],
-        Err(refused) => [answers::code_of(refused.refusal), refused.place, 0, 0, 0],
-    }
+fn shown(range: Range) -> [u64; 3] {
+    [range.least, range.greatest, range.width]
 }
 
 // h n, h k, n × q of numbers, k marks.
@@ -33,6 +22,6 @@ pub(crate) fn replay<W: Write>(
     let mark_count = within(mark_count, MOST_ELEMENTS)?;
     case.longs(numbers)?;
     let marks = case.take(mark_count)?;
-    out.whole(&shown(scan(numbers, marks)));
+    out.whole_answer(scan(numbers, marks).map(shown));
     Ok(())
 }

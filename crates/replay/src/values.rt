@@ -4,7 +4,7 @@ use crate::types::Fault;
 use checked::types::Checked;
 use checked::width::Width;
 
-// Its mark and its number.
+// Its mark and its number, as the case has them. Which values there are depends on the width, which is still to be looked at.
 #[derive(Clone, Copy, Debug, PartialEq, Eq)]
 pub struct Marked {
     pub mark: u8,

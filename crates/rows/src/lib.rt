@@ -1,5 +1,5 @@
-// Whole rows of single operations at 64 bits: `row::row` over plain lists, and in `records` what a host calls for a
-// list of records.
+// Whole rows of single operations at 64 bits: `row::row` over plain lists, and in `records` what a host program in C calls
+// for a list of records.
 #![tactic(auto)]
 
 mod element;

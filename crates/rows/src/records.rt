@@ -1,4 +1,5 @@
-// Rows of operation records, as a host keeps them.
+// Rows of operation records, as a host program in C keeps them. C has numbers and lists that it lends: so the entry returns a
+// number, and writes to three lists.
 ghost use Rattle.std.specs.Prelude.{◌≡◌};
 ghost use Rattle.rows.specs.Rows.{fields, code_for, numbers_after, marks_after, codes_after};
 ghost use Rattle.rows.specs.Answers.{rowed};
@@ -7,7 +8,8 @@ use crate::row::{begin, clear, step};
 use crate::types::{OperationRecord, code};
 use checked::refusal::Refusal;
 
-// The row of the records' fields; each record is read where it lies.
+// The row of the records' fields; each record is read where it lies. What `row` and this share is in `begin`, `clear` and
+// `step`: one function over both forms of operations would be longer than the loop that is left.
 fn of_records(
     operations: &[OperationRecord],
     numbers: &mut [u64],

@@ -18,7 +18,7 @@ const MOST: usize = 4096;
 const NO_NUMBER: u64 = 0;
 
 // Why a row of these lengths is refused, if it is: of kinds, lefts and rights, and of the lists that are to hold
-// numbers, marks and codes.
+// numbers, marks and codes. Six lengths and no lists: each list is lent apart, and `row` and `of_records` have other ones.
 #[tactic(auto, using(std::proofs::lemmas::Bool::Decides::nat_tests), unfolding(crate::specs::Rows::code_of))]
 pub(crate) fn begin(
     kinds: usize,
@@ -97,7 +97,8 @@ pub(crate) fn step(operation: OperationRecord, number: &mut u64, mark: &mut u8, 
 }
 
 // A row of plain lists: element i of each result is that of the operation of kind i on left i and right i, refused or
-// not, and what is past the last stays. On refusal all stays.
+// not, and what is past the last stays. On refusal all stays. The six lists are apart, as C lends them to `razovinto_row`. They
+// are gone through by places: with a `zip` for each of the other five the loop is no plainer.
 pub fn row(
     kinds: &[u8],
     lefts: &[u64],

@@ -13,7 +13,7 @@ pub struct OperationRecord {
     pub right: u64,
 }
 
-// What a row's answer is to a host: 0 where the elements stand in the lent lists, or the refusal's number.
+// What a row's answer is to a host in C: 0 where the elements stand in the lent lists, or the refusal's number.
 pub fn code(answer: Result<(), Refusal>) -> u32
     ensures { result ≡ rowed answer }
 {

@@ -11,6 +11,7 @@ use checked::refusal::{Refusal, RefusedAt};
 use layout::{BLOCK_LENGTH, MARKS_AT};
 
 // The blocks from the first on, and in each one its marks: the first mark that is set leaves both loops.
+// docs/DECISIONS.md names this form: an outer loop, an inner one, and an exit by label with the found place.
 fn among(run: &[u8]) -> Result<Option<Spot>, RefusedAt>
     requires { length run.now % block_length ≡ 0 }
     ensures { searched result ≡ search_of run.now }

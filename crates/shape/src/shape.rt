@@ -10,6 +10,8 @@ use crate::width::limit_of;
 use checked::refusal::{Refusal, RefusedAt};
 
 // The limit of a well-formed recipe's width, or why the recipe is not well formed, and where. The width is looked at first.
+// A recipe is two lists, as C lends them, and its width is a number: docs/ENTRIES.md names `shape`, and any number and any two
+// lists get an answer.
 #[tactic(auto, unfolding(crate::specs::Shape::shape_of, crate::specs::Answers::limit_for))]
 pub fn shape(width: u64, kinds: &[u8], numbers: &[u64]) -> Result<u64, RefusedAt>
     ensures { verdict result ≡ shape_of width kinds.now numbers.now }
@@ -35,7 +37,8 @@ fn within(limit: u64, kinds: &[u8], numbers: &[u64]) -> Result<u64, RefusedAt>
     of_items(limit, kinds, numbers)
 }
 
-// Item by item: `held` is how many values are on hand before item i.
+// Item by item: `held` is how many values are on hand before item i. A `zip` of both lists was tried in place of `numbers[i]`:
+// the facts of its loop have no place.
 fn of_items(limit: u64, kinds: &[u8], numbers: &[u64]) -> Result<u64, RefusedAt>
     requires { length kinds.now ≡ length numbers.now }
     ensures { verdict result ≡ shape_from limit 0 0 (items kinds.now numbers.now) }
@@ -54,7 +57,8 @@ fn of_items(limit: u64, kinds: &[u8], numbers: &[u64]) -> Result<u64, RefusedAt>
     at_end(limit, held, kinds.len() as u64)
 }
 
-// How many values are on hand after an item, or its fault.
+// How many values are on hand after an item, or its fault. The code is read here, so that `?` passes its refusal on with the
+// item's others.
 fn after(limit: u64, held: u64, kind: u8, number: u64) -> Result<u64, Refusal>
     ensures { held_verdict result ≡ held_for limit held (kind_of kind) number }
 {

@@ -30,6 +30,7 @@ fn narrowed<N: SignedWidth>(wide: Result<i64, Refusal>) -> Result<N, Refusal>
     }
 }
 
+// std's `checked_div` has one `None` for both refusals, so both are tested here.
 fn quotient64(a: i64, b: i64) -> Result<i64, Refusal>
     ensures { answer result ≡ quotient_of 64 a b }
 {
@@ -44,6 +45,7 @@ fn quotient64(a: i64, b: i64) -> Result<i64, Refusal>
     Ok(a / b)
 }
 
+// std's `checked_rem` gives nothing by -1 for the smallest number, of which a 0 would have to be made all the same.
 fn remainder64(a: i64, b: i64) -> Result<i64, Refusal>
     ensures { answer result ≡ remainder_of a b }
 {

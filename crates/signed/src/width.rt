@@ -1,4 +1,5 @@
-// A width: the signed numbers of so many bits, as whole numbers and as numbers of 64 bits.
+// A width: the signed numbers of so many bits, as whole numbers and as numbers of 64 bits. Each width has an impl written
+// out, since the project may have no impl that a macro of its own writes.
 ghost use Rattle.std.specs.Prelude.{◌≡◌, true, ℕ, ◌≤◌, ℤ};
 ghost use Rattle.std.proofs.Common.{rules};
 ghost use Rattle.signed.specs.Signed.{in_range, option_by, at_width};

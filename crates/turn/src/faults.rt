@@ -26,7 +26,8 @@ fn fault(x: f32, mark: u8) -> Option<Refusal>
 }
 
 // The refusal at the earliest place with a fault. The scan has the same walk over its own faults: what a walk promises
-// is said of its faults, so that one over any would be told by its caller what both say here.
+// is said of its faults, so that one over any would be told by its caller what both say here. The mark goes by the
+// place, which the answer needs as well.
 pub(crate) fn refuse(level: &[f32], grounds: &[u8]) -> RefusedAt
     requires level_len { length level.now ≡ length grounds.now }
     requires level_in_bounds { first_fault (fault_at level.now grounds.now) (length level.now) < length level.now }
@@ -36,8 +37,8 @@ pub(crate) fn refuse(level: &[f32], grounds: &[u8]) -> RefusedAt
         (first_fault (fault_at level.now grounds.now) (length level.now)))
         (first_fault (fault_at level.now grounds.now) (length level.now)) }
 {
-    for place in 0..level.len() {
-        if let Some(refusal) = fault(level[place], grounds[place]) {
+    for (place, x) in level.iter().enumerate() {
+        if let Some(refusal) = fault(*x, grounds[place]) {
             return refusal.at(place as u64);
         }
     }

@@ -10,7 +10,7 @@ use crate::wholes::{all_whole, value};
 use checked::refusal::{Refusal, RefusedAt};
 use reading::marks::all_marked;
 
-// Each reading's value.
+// Each reading's value. It is stored by its place, since `numbers` may be longer and is promised place by place.
 fn put_values(level: &[f32], numbers: &mut [u64])
     requires level_in_bounds { length level.now ≤ length numbers.old }
     requires level_value { every (is_whole_at level.now) (length level.now) ≡ true }
@@ -30,7 +30,7 @@ fn put_unmarked(count: usize, marks: &mut [u8])
 }
 
 // The field whose numbers are the level's readings, all marks 0. The lists' lengths come first, then the room, then the
-// places; the lists stay on refusal.
+// places; the lists stay on refusal. Level and field are two lists each, as a host lends them.
 pub fn turn(
     level: &[f32],
     grounds: &[u8],

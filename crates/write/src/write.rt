@@ -15,7 +15,8 @@ use layout::{BLOCK_LENGTH, one};
 const BLOCK_NUMBERS: u64 = 4294967296;
 
 // The field's blocks, one by one; the last has what is left. The run is cut by hand: of `chunks_exact_mut`, which was
-// tried, std doesn't say what the slice holds afterwards.
+// tried, std doesn't say what the slice holds afterwards. Numbers and marks are cut by places as well, so that one
+// position tells all four.
 fn lay_all(numbers: &[u64], marks: &[u8], first: u32, blocks: usize, run: &mut [u8])
     requires { (length marks.now ≡ length numbers.now)
         × (blocks_for one (length numbers.now) ≡ blocks)
@@ -37,7 +38,7 @@ fn lay_all(numbers: &[u64], marks: &[u8], first: u32, blocks: usize, run: &mut [
     }
 }
 
-// The length written, or 6, 14, 15 at its place, 19 or 21.
+// The length written, or 6, 14, 15 at its place, 19 or 21. A field is two lists, as a host lends them.
 pub fn write(numbers: &[u64], marks: &[u8], first: u32, run: &mut [u8]) -> Result<u64, RefusedAt>
     ensures result_value { writing result ≡ writing_of one first numbers.now marks.now run.old }
     ensures run_new { run.new ≡ run_after one first numbers.now marks.now run.old }
@@ -52,6 +53,7 @@ pub fn write(numbers: &[u64], marks: &[u8], first: u32, run: &mut [u8]) -> Resul
     let blocks = (count - 1) / one::MOST + 1;
     // So many block numbers there are from the first on.
     let left = BLOCK_NUMBERS - first as u64;
+    // Where no mark is bad, `first_bad` gives how many there are.
     let place = first_bad(numbers, marks);
     if place < count {
         return Err(Refusal::BadMark.at(place as u64));

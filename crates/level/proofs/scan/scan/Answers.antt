@@ -6,7 +6,6 @@ use Prim.Native.Nat.{◌+◌, ◌<◌}
 use native.Mathlib.Omega.{arith}
 use borrow.Author.Tests.{eqb-true, eqb-false}
 use lib.ListN.{length}
-use lib.Ieee.{nan_bits}
 use Rattle.places.specs.Places.{every}
 use Rattle.places.specs.Faults.{first_fault}
 use Rattle.places.proofs.Faults.{no-fault-before-0}
@@ -94,14 +93,6 @@ returns-then-not-all_marked c =
     ∙ sym
     (at-fault g.level.now g.grounds.now c.if-level-grounds.false (eqb-false (length g.level.now) 0 (sym c.is_empty.ensures ∙ c.if-is_empty.false))
     (badly (goal.at.returns-then-not-all_marked c).After-all_marked c.if-not-all_marked.true))
-
-pub float_from_bits-extent : goal.float_from_bits-extent
-unfolding nan_bits
-float_from_bits-extent c = tt
-
-pub float_from_bits-extent-2 : goal.float_from_bits-extent-2
-unfolding nan_bits
-float_from_bits-extent-2 c = tt
 
 pub loop-at-init : goal.loop-at-init
 loop-at-init c = passed-none c.args.level.now c.args.grounds.now
