@@ -1,5 +1,5 @@
 // The operations over a limit that is given as a number: the four widths share them, and so does whoever learns the width only
-// when running. They are named with it in docs/ENTRIES.md, so it is a parameter of each.
+// when running. docs/ENTRIES.md names them, with the limit where they need it, so it is a parameter.
 ghost use Rattle.std.specs.Prelude.{◌≡◌, ℕ, ◌+◌, ◌*◌, ◌%◌, ◌^◌, ◌≤◌, ◌<◌, max, min};
 ghost use Rattle.whole.specs.Logarithm.{log_of};
 ghost use Rattle.checked.specs.declared.types.Checked.TheVariants.{Fits, Overflowed};

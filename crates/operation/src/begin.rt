@@ -60,8 +60,8 @@ fn begin_logarithm(limit: u64, left: Checked64, right: Checked64) -> Result<Prog
     }
 }
 
-// What an operation begins with on these two operands. The limit and both stay parameters: docs/ENTRIES.md has this function,
-// `begin` and `work` with them, and the private ones pass them on.
+// What an operation begins with on these two operands. The limit and both stay parameters: docs/ENTRIES.md has this function
+// and `begin` with them, and the private ones pass them on.
 pub fn begin_operation(
     limit: u64,
     operation: Operation,
@@ -86,8 +86,8 @@ pub fn begin(limit: u64, kind: u8, left: Checked64, right: Checked64) -> Result<
     ensures { outcome result ≡ begun_as limit (kind_of kind) left right }
 {
     // Sums and products apart from the others, by comparisons: of one match of all six a compiler makes a table of jumps,
-    // which took a quarter more time in recipes of five items of mixed kinds. docs/SPEED.md has a bar of 1.20 of C's time for
-    // the runner, to which that one comes nearer.
+    // which took a quarter more time in recipes of five items of mixed kinds. docs/SPEED.md sets no bar for these; the code is
+    // the parameter anyway, and to compare it is no longer.
     if kind < 3 {
         return match kind {
             1 => begin_operation(limit, Operation::Sum, left, right),

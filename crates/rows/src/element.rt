@@ -40,8 +40,8 @@ fn below_two(kind: u8, left: u64, right: u64) -> Result<Checked64, Refusal>
 }
 
 // The operation's answer, or 8 for a kind that is none of the six. Sums are told from the others by a test of their own,
-// so that a row of them needs no table of jumps: without it such a row took 1.33 of the time, which is more than the 0.50 of
-// single entries that docs/SPEED.md asks of sums.
+// so that a row of them needs no table of jumps: without it such a row took 1.33 of the time. By the 0.45 of single
+// entries that docs/SPEED.md has that is 0.60 of them, and more than the 0.50 that is asked of sums.
 #[tactic(auto, unfolding(crate::specs::Rows::element_of))]
 pub(crate) fn answer(operation: OperationRecord) -> Result<Checked64, Refusal>
     ensures { paper result ≡ element_of operation.kind operation.left operation.right }

@@ -30,7 +30,7 @@ fn unfit(x: f32) -> u32
 }
 
 // Whether every reading is such a whole number. There is no early exit; they are joined as numbers of 32 bits: with
-// `bool` in their place, which was tried, `turn` took 3.4 ns a value where it takes 2.8.
+// `bool` in their place, which was tried, `turn` took 1.2 of the time.
 pub fn all_whole(level: &[f32]) -> bool
     ensures { result ≡ every (is_whole_at level.now) (length level.now) }
 {
