@@ -7,9 +7,6 @@ use checked::refusal::Refusal;
 use checked::types::Checked64;
 use store::bytes::put_long;
 
-// What an entry writes has this many bytes.
-const RESULT_LENGTH: usize = 16;
-
 // A value's number, and its mark with seven zeros, which are the mark as a number of eight bytes: each becomes one
 // store. The two cases write in another order, so that the compiler keeps each apart with its own literals.
 fn put_value(res: &mut [u8], value: Checked64)
@@ -28,15 +25,13 @@ fn put_value(res: &mut [u8], value: Checked64)
     }
 }
 
-// The answer's value is written and 0 returned, or the refusal's number. A slice that is too short is refused whatever
-// the answer is. What is returned is a number, since the entries for C return it.
+// The answer's value is written and 0 returned, or the refusal's number. What is returned is a number, since the entries
+// for C return it. There is room: each entry looks at that before it works anything out.
 pub(crate) fn put_answer(res: &mut [u8], answer: Result<Checked64, Refusal>) -> u32
+    requires { 16 ≤ length res.old }
     ensures value { result ≡ returned (paper answer) res.old }
     ensures res_new { res.new ≡ afterwards (paper answer) res.old }
 {
-    if res.len() < RESULT_LENGTH {
-        return Refusal::ListTooShort.number();
-    }
     match answer {
         Ok(value) => {
             put_value(res, value);
@@ -44,4 +39,11 @@ pub(crate) fn put_answer(res: &mut [u8], answer: Result<Checked64, Refusal>) -> 
         }
         Err(refusal) => refusal.number(),
     }
+}
+
+// What is returned where the slice is too short, whatever the operation would come to.
+pub(crate) fn too_short() -> u32
+    ensures { result ≡ 19 }
+{
+    Refusal::ListTooShort.number()
 }
