@@ -1,4 +1,6 @@
 /* Levels at their limits. Readings stand here as the bits of floats, so that no NaN and no zero changes on its way. */
+#include <fenv.h>
+
 #include "calls.h"
 #include "lent.h"
 
@@ -129,6 +131,21 @@ static void check_unusable_readings(void)
     for (digit = 0; digit < 23; digit++) {
         expect_unusable(INFINITE + (1u << digit));
         expect_unusable(INFINITE + SIGN + (1u << digit));
+    }
+}
+
+/* A host may have the processor trap invalid operations, as Fortran's compilers can: an infinity gets its refusal and is none. */
+static void check_infinities_are_no_invalid_operation(void)
+{
+    size_t count;
+    for (count = 3; count < 8192; count += 4096) {
+        make_level(count, ONE);
+        feclearexcept(FE_INVALID);
+        set(count - 1, INFINITE, 0);
+        expect_refused("an infinity at the end", count, RAZOVINTO_UNUSABLE_READING, count - 1);
+        set(1, INFINITE + SIGN, 0);
+        expect_refused("an infinity below zero", count, RAZOVINTO_UNUSABLE_READING, 1);
+        expect(fetestexcept(FE_INVALID) == 0, "an infinity is no invalid operation");
     }
 }
 
@@ -381,6 +398,7 @@ void check_levels(void)
 {
     check_single_readings();
     check_unusable_readings();
+    check_infinities_are_no_invalid_operation();
     check_order();
     check_lengths();
     check_plateau();
