@@ -1,6 +1,7 @@
 // Writes a block's numbers and marks into the lent lists, and nothing past them. The block is a slice whose length is
 // asked: `read` has its list as it was lent, and to make an array of it once more would need an answer for where that
-// fails.
+// fails. Both go by places: of std's `copy_from_slice` a compiler makes a call of `memmove`, and the library for hosts
+// needs nothing from outside but `memset`.
 ghost use Rattle.std.specs.Prelude.{◌≡◌, ◌+◌, ◌*◌, ◌≤◌, length};
 ghost use Rattle.places.specs.Places.{over};
 ghost use Rattle.layout.specs.Editions.{block_length, marks_at};
@@ -23,5 +24,7 @@ pub(crate) fn copy_marks(b: &[u8], count: usize, marks: &mut [u8])
     requires { (length b.now ≡ block_length) × (marks_at + count ≤ block_length) × (count ≤ length marks.old) }
     ensures { marks.new ≡ over (mark b.now) count marks.old }
 {
-    marks[..count].copy_from_slice(&b[MARKS_AT..MARKS_AT + count]);
+    for i in 0..count {
+        marks[i] = b[MARKS_AT + i];
+    }
 }

@@ -72,18 +72,14 @@ impl Hand {
         (left, right)
     }
 
-    // The places' numbers.
-    pub(crate) fn numbers(&self) -> [u64; 32]
-        ensures { result ≡ places number_in self.now }
+    // The places' numbers and marks. The hand is given up for them, so that nothing is copied.
+    pub(crate) fn into_places(self) -> ([u64; 32], [u8; 32])
+        ensures numbers { result.0 ≡ places number_in self }
+        ensures marks { result.1 ≡ places mark_of self }
     {
-        self.numbers
-    }
-
-    // The places' marks.
-    pub(crate) fn marks(&self) -> [u8; 32]
-        ensures { result ≡ places mark_of self.now }
-    {
-        self.marks
+        let numbers = self.numbers;
+        let marks = self.marks;
+        (numbers, marks)
     }
 }
 

@@ -30,23 +30,24 @@ fn ended(answer: Result<Checked64, RefusedAt>, steps: u64) -> Run
 }
 
 // Stopped: 20 at the number of items wholly done.
-fn stopped(state: State, hand: &Hand) -> Run
-    ensures { paper result ≡ driven_of hand.now (Stopped state) }
+fn stopped(state: State, hand: Hand) -> Run
+    ensures { paper result ≡ driven_of hand (Stopped state) }
 {
     let done = state.done as u64;
+    let (numbers, marks) = hand.into_places();
     Run {
         answer: Err(Refusal::AllowanceSpent.at(done)),
         steps: state.taken,
         done,
-        numbers: hand.numbers(),
-        marks: hand.marks(),
+        numbers,
+        marks,
         phase: state.phase,
     }
 }
 
 // Where the allowance has brought the run.
-fn conclude(driven: Driven, hand: &Hand) -> Run
-    ensures { paper result ≡ driven_of hand.now driven }
+fn conclude(driven: Driven, hand: Hand) -> Run
+    ensures { paper result ≡ driven_of hand driven }
 {
     match driven {
         Driven::Finished(value, steps) => ended(Ok(value), steps),
@@ -63,7 +64,7 @@ fn run_good(limit: u64, kinds: &[u8], numbers: &[u64], allowance: u64) -> Run
 {
     let mut hand = Hand::new();
     let driven = drive(limit, kinds, numbers, allowance, &mut hand);
-    conclude(driven, &hand)
+    conclude(driven, hand)
 }
 
 // The shape is looked at whole before anything runs; then the recipe runs until it is done, refused, or out of its allowance.

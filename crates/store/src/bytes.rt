@@ -34,7 +34,8 @@ pub fn put_longs(b: &mut [u8], at: usize, numbers: &[u64])
     }
 }
 
-// Bytes as they are.
+// Bytes as they are, one by one: of std's `copy_from_slice` a compiler makes a call of `memmove`, and the library for hosts
+// needs nothing from outside but `memset`.
 pub fn put_bytes(b: &mut [u8], at: usize, bytes: &[u8])
     ensures { b.new ≡ put at bytes.now b.old }
 {
@@ -42,7 +43,9 @@ pub fn put_bytes(b: &mut [u8], at: usize, bytes: &[u8])
     if b.len() < at || b.len() - at < count {
         return;
     }
-    b[at..at + count].copy_from_slice(bytes);
+    for i in 0..count {
+        b[at + i] = bytes[i];
+    }
 }
 
 // So many zeros, byte by byte: of this a compiler makes one call, where std's `fill` stores the last byte apart.
