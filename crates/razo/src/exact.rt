@@ -2,6 +2,7 @@
 // Display stops at the shortest that reads back the same.
 ghost use Rattle.std.specs.Prelude.{◌≤◌};
 
+use crate::line::Digits;
 use std::fmt;
 
 // The smallest float has 149 digits behind the point, and the greatest 39 before it.
@@ -56,7 +57,7 @@ impl fmt::Display for Decimal {
             if place < point && place + 1 == point {
                 write!(f, ".")?;
             }
-            let digit = digits.get(place).copied().unwrap_or(0);
+            let digit = Digits(u64::from(digits.get(place).copied().unwrap_or(0)));
             write!(f, "{digit}")?;
         }
         Ok(())

@@ -1,5 +1,5 @@
 // A file that is read in parts.
-use crate::line::Line;
+use crate::line::{Digits, Line};
 use crate::status::Stop;
 use crate::system::{Streams, System};
 use crate::text::Report;
@@ -42,7 +42,7 @@ const LENT: u64 = 100;
 
 // The file of such a word. std opens no descriptor by its number, but the system has a name for each.
 fn open_lent<R: System>(rt: &R, index: usize) -> io::Result<R::File> {
-    let descriptor = count_on(LENT, index as u64);
+    let descriptor = Digits(count_on(LENT, index as u64));
     let mut path = Line::<64>::new();
     path.show(format_args!("/proc/self/fd/{descriptor}"));
     match str::from_utf8(path.as_bytes()) {

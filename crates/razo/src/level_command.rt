@@ -2,7 +2,7 @@
 // its refusals comes first is known when both files have ended: their lengths come before their places.
 use crate::exact::Exact;
 use crate::file::{PART, STANDARD, Source, count_on, open, take};
-use crate::line::Line;
+use crate::line::{Digits, HexDigits, Line};
 use crate::reason::Reason;
 use crate::status::{Status, Stop};
 use crate::system::{Streams, System};
@@ -120,7 +120,8 @@ impl fmt::Display for Reading {
         let called = self.called;
         let bits = value.to_bits();
         let exact = Exact(bits);
-        write!(f, "{called}: {exact} (bits 0x{bits:08x})\n")
+        let bits = HexDigits(bits);
+        write!(f, "{called}: {exact} (bits 0x{bits})\n")
     }
 }
 
@@ -149,7 +150,7 @@ impl<R: Streams, F: Read> Side<'_, R, F> {
 impl<R: Streams, F: Read> Level<'_, R, F> {
     // A mark's place is one of the file of marks. Where there is none, no mark is bad.
     fn complain_place(&self, refused: RefusedAt) -> Stop {
-        let place = refused.place;
+        let place = Digits(refused.place);
         let reason = Reason(refused.refusal);
         let what = format_args!(": place {place}: {reason}\n");
         match (refused.refusal, &self.ground) {
@@ -164,6 +165,7 @@ impl<R: Streams, F: Read> Level<'_, R, F> {
         let marks = all.marks;
         let readings = bytes / 4;
         if bytes % 4 != 0 {
+            let bytes = Digits(bytes);
             return Err(
                 self.values.report.complain(format_args!(
                     ": {bytes} bytes are no whole number of readings, of 4 bytes each\n"
@@ -172,6 +174,8 @@ impl<R: Streams, F: Read> Level<'_, R, F> {
         }
         if readings != marks {
             let reason = Reason(Refusal::LengthsDiffer);
+            let readings = Digits(readings);
+            let marks = Digits(marks);
             return Err(
                 self.values.report.complain(format_args!(
                     ": {readings} readings, {marks} ground marks: {reason}\n"

@@ -20,6 +20,7 @@ mod write_command;
 use crate::file::open;
 use crate::help::{help, usage};
 use crate::level_command::level_command;
+use crate::line::Digits;
 use crate::read_command::read_parts;
 use crate::run_command::{number_at, run_command};
 use crate::search_command::search_parts;
@@ -117,12 +118,15 @@ fn on_numbers(rt: &impl System, words: usize) -> Result<Status, Stop> {
     let number = number_at(rt, 2, "razo: FIRST, '")?;
     match u32::try_from(number) {
         Ok(number) => on_file(rt, Work::Write(number), 3, false),
-        Err(_) => Err(complain(
-            rt,
-            format_args!("razo: FIRST, '{number}"),
-            b"",
-            "', is too large: block numbers are below 2^32\n",
-        )),
+        Err(_) => {
+            let number = Digits(number);
+            Err(complain(
+                rt,
+                format_args!("razo: FIRST, '{number}"),
+                b"",
+                "', is too large: block numbers are below 2^32\n",
+            ))
+        }
     }
 }
 

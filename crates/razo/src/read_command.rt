@@ -1,6 +1,6 @@
 // A line for each block of a file, part by part.
 use crate::file::{Filled, PART, count_on, fill, in_whole_blocks};
-use crate::line::Line;
+use crate::line::{Digits, Line};
 use crate::reason::Reason;
 use crate::status::{Status, Stop};
 use crate::system::Streams;
@@ -31,8 +31,8 @@ struct Tally {
 impl fmt::Display for Tally {
     fn fmt<W: fmt::Write>(&self, f: &mut fmt::Formatter<W>) -> fmt::Result {
         let blocks = Blocks(self.blocks);
-        let bad = self.bad;
-        let overflowed = self.overflowed;
+        let bad = Digits(self.bad);
+        let overflowed = Digits(self.overflowed);
         write!(
             f,
             "{blocks}, {bad} bad, {overflowed} with overflowed values\n"
@@ -60,10 +60,11 @@ struct Listing {
 impl Listing {
     // A good block, with its values. A scan never passes over an overflowed place, and an empty field has no range.
     fn list_good(&mut self, number: u32, numbers: &[u64], marks: &[u8]) {
-        let position = self.tally.blocks;
-        let count = marks.len();
         let overflowed = count_set(marks);
-        self.lines.show(format_args!("{position:10}{number:12}{count:7}{overflowed:12}"));
+        self.lines.column(10, self.tally.blocks);
+        self.lines.column(12, u64::from(number));
+        self.lines.column(7, marks.len() as u64);
+        self.lines.column(12, overflowed);
         match scan(numbers, marks) {
             Ok(range) => {
                 let Range {
@@ -71,8 +72,10 @@ impl Listing {
                     greatest,
                     width,
                 } = range;
-                self.lines
-                    .show(format_args!("{least:22}{greatest:22}{width:7}\n"));
+                self.lines.column(22, least);
+                self.lines.column(22, greatest);
+                self.lines.column(7, width);
+                self.lines.put(b"\n");
             }
             Err(_) => self
                 .lines
@@ -84,10 +87,9 @@ impl Listing {
     }
 
     fn list_bad(&mut self, refusal: Refusal) {
-        let position = self.tally.blocks;
         let reason = Reason(refusal);
-        self.lines
-            .show(format_args!("{position:10}  bad block: {reason}\n"));
+        self.lines.column(10, self.tally.blocks);
+        self.lines.show(format_args!("  bad block: {reason}\n"));
         self.tally.bad = count_on(self.tally.bad, 1);
     }
 

@@ -1,4 +1,5 @@
 // Refusals in words.
+use crate::line::Digits;
 use checked::refusal::Refusal;
 use std::fmt;
 
@@ -41,7 +42,7 @@ pub(crate) struct Reason(pub(crate) Refusal);
 impl fmt::Display for Reason {
     fn fmt<W: fmt::Write>(&self, f: &mut fmt::Formatter<W>) -> fmt::Result {
         let words = phrase(self.0);
-        let number = self.0.number();
+        let number = Digits(u64::from(self.0.number()));
         write!(f, "{words} (refusal {number})")
     }
 }

@@ -1,7 +1,7 @@
 // A recipe as words of the command line.
 ghost use Rattle.std.specs.Prelude.{◌≤◌};
 
-use crate::line::Line;
+use crate::line::{Digits, Line};
 use crate::show::Shown;
 use crate::status::{Status, Stop};
 use crate::system::System;
@@ -23,7 +23,7 @@ struct ItemAt(usize);
 
 impl Display for ItemAt {
     fn fmt<W: fmt::Write>(&self, f: &mut fmt::Formatter<W>) -> fmt::Result {
-        let place = self.0;
+        let place = Digits(self.0 as u64);
         write!(f, "razo: word {place}, '")
     }
 }

@@ -1,5 +1,6 @@
 // The search of a file of blocks, part by part.
 use crate::file::{Filled, PART, count_on, fill, in_whole_blocks};
+use crate::line::Digits;
 use crate::reason::Reason;
 use crate::status::{Status, Stop};
 use crate::system::Streams;
@@ -16,12 +17,13 @@ fn search_run<R: Streams>(report: &Report<'_, R>, run: &[u8], behind: u64) -> Re
     match search(run) {
         Ok(None) => Ok(count_on(behind, (run.len() / BLOCK_LENGTH) as u64)),
         Ok(Some(Spot { position, place })) => {
-            let block = count_on(behind, position);
+            let block = Digits(count_on(behind, position));
+            let place = Digits(place);
             report.say(format_args!("overflowed: block {block}, place {place}\n"))?;
             Err(Stop::Ended(Status::Found))
         }
         Err(refused) => {
-            let block = count_on(behind, refused.place);
+            let block = Digits(count_on(behind, refused.place));
             let reason = Reason(refused.refusal);
             report.say(format_args!("bad block {block}: {reason}\n"))?;
             Err(Stop::Ended(Status::Found))

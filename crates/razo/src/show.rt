@@ -1,4 +1,5 @@
 // What a run answers, in lines.
+use crate::line::Digits;
 use crate::reason::Reason;
 use crate::status::Status;
 use crate::text::{count_set, first};
@@ -16,7 +17,7 @@ struct Value(Checked64);
 impl Display for Value {
     fn fmt<W: fmt::Write>(&self, f: &mut fmt::Formatter<W>) -> fmt::Result {
         match self.0 {
-            Checked64::Fits(n) => write!(f, "{n}"),
+            Checked64::Fits(n) => Digits(n).fmt(f),
             Checked64::Overflowed => write!(f, "overflowed"),
         }
     }
@@ -28,7 +29,7 @@ struct Place(RefusedAt);
 
 impl Display for Place {
     fn fmt<W: fmt::Write>(&self, f: &mut fmt::Formatter<W>) -> fmt::Result {
-        let place = self.0.place;
+        let place = Digits(self.0.place);
         match self.0.refusal {
             Refusal::UnknownWidth | Refusal::LengthsDiffer | Refusal::ItemCount => Ok(()),
             Refusal::SeveralLeft | Refusal::NoneLeft => write!(f, " after {place} items"),
@@ -51,6 +52,7 @@ impl Display for Hand<'_> {
         }
         for (number, mark) in self.numbers.iter().zip(self.marks) {
             if *mark == 0 {
+                let number = Digits(*number);
                 write!(f, " {number}")?;
             } else {
                 write!(f, " overflowed")?;
@@ -71,16 +73,16 @@ impl Display for At {
             Phase::InPower(power) => {
                 let first = Value(power.first);
                 let second = Value(power.second);
-                let exponent = power.exponent;
+                let exponent = Digits(power.exponent);
                 write!(
                     f,
                     "within a power: first {first}, second {second}, exponent {exponent}"
                 )
             }
             Phase::InLogarithm(logarithm) => {
-                let base = logarithm.base;
-                let left = logarithm.left;
-                let count = logarithm.count;
+                let base = Digits(logarithm.base);
+                let left = Digits(logarithm.left);
+                let count = Digits(logarithm.count);
                 write!(
                     f,
                     "within a logarithm: base {base}, left {left}, count {count}"
@@ -120,7 +122,7 @@ impl Shown<'_> {
 
     // The state where the allowance was spent.
     fn write_state<W: fmt::Write>(&self, f: &mut fmt::Formatter<W>) -> fmt::Result {
-        let done = self.run.done;
+        let done = Digits(self.run.done);
         let held = self.held().min(32) as usize;
         let hand = Hand {
             numbers: &self.run.numbers[..held],
@@ -133,7 +135,7 @@ impl Shown<'_> {
 
 impl Display for Shown<'_> {
     fn fmt<W: fmt::Write>(&self, f: &mut fmt::Formatter<W>) -> fmt::Result {
-        let steps = self.run.steps;
+        let steps = Digits(self.run.steps);
         match self.run.answer {
             Ok(value) => {
                 let value = Value(value);

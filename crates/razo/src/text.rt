@@ -1,5 +1,5 @@
 // What is written out: lines that tell of a file, and complaints.
-use crate::line::Line;
+use crate::line::{Digits, Line};
 use crate::status::{Status, Stop};
 use crate::system::{Streams, System};
 use std::fmt::{Display, InlineText};
@@ -96,7 +96,10 @@ impl Display for Blocks {
     fn fmt<W: fmt::Write>(&self, f: &mut fmt::Formatter<W>) -> fmt::Result {
         match self.0 {
             1 => write!(f, "1 block"),
-            count => write!(f, "{count} blocks"),
+            count => {
+                let count = Digits(count);
+                write!(f, "{count} blocks")
+            }
         }
     }
 }

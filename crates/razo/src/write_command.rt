@@ -2,6 +2,7 @@
 ghost use Rattle.std.specs.Prelude.{◌≤◌};
 
 use crate::file::{Filled, PART, count_on, fill};
+use crate::line::Digits;
 use crate::reason::Reason;
 use crate::status::{Status, Stop};
 use crate::system::Streams;
@@ -71,6 +72,7 @@ fn complain_word<R: Streams>(report: &Report<'_, R>, line: u64, said: &[u8], fau
         Fault::TooLong => shortened(said),
         Fault::TooLarge | Fault::Neither => said,
     };
+    let line = Digits(line);
     report.complain_word(format_args!(": line {line}: '"), shown, fault)
 }
 

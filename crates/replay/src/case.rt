@@ -1,5 +1,6 @@
 // What a case says: its bytes, which are read from the front.
 use crate::types::Fault;
+use little::bytes;
 
 // The bytes that are still to be read.
 #[derive(Drop)]
@@ -46,17 +47,18 @@ impl<'a> Case<'a> {
 
     // A count, of two bytes.
     pub(crate) fn count(&mut self) -> Result<usize, Fault> {
-        Ok(usize::from(u16::from_le_bytes(self.array()?)))
+        let [a, b] = self.array::<2>()?;
+        Ok(usize::from(bytes::half(a, b)))
     }
 
     // Of four bytes.
     pub(crate) fn word(&mut self) -> Result<u32, Fault> {
-        Ok(u32::from_le_bytes(self.array()?))
+        Ok(word_of(self.array()?))
     }
 
     // Of eight bytes.
     pub(crate) fn long(&mut self) -> Result<u64, Fault> {
-        Ok(u64::from_le_bytes(self.array()?))
+        Ok(long_of(self.array()?))
     }
 
     // As many numbers of eight bytes as the lent list takes.
@@ -64,7 +66,7 @@ impl<'a> Case<'a> {
         let bytes = self.take(numbers.len().saturating_mul(8))?;
         let (longs, _) = bytes.as_chunks::<8>();
         for (number, long) in numbers.iter_mut().zip(longs) {
-            *number = u64::from_le_bytes(*long);
+            *number = long_of(*long);
         }
         Ok(())
     }
@@ -74,10 +76,19 @@ impl<'a> Case<'a> {
         let bytes = self.take(level.len().saturating_mul(4))?;
         let (words, _) = bytes.as_chunks::<4>();
         for (reading, word) in level.iter_mut().zip(words) {
-            *reading = float_of(u32::from_le_bytes(*word));
+            *reading = float_of(word_of(*word));
         }
         Ok(())
     }
+}
+
+// The numbers of four and of eight bytes, by the functions that the block reader stands on.
+fn word_of([a, b, c, d]: [u8; 4]) -> u32 {
+    bytes::word(a, b, c, d)
+}
+
+fn long_of([a, b, c, d, e, f, g, h]: [u8; 8]) -> u64 {
+    bytes::long(a, b, c, d, e, f, g, h)
 }
 
 // The float with these bits. All NaNs are one: which it was is no matter for any answer. razo has the same function: one use

@@ -23,10 +23,10 @@ impl Marked {
     pub(crate) fn value<N: Width>(self) -> Result<Checked<N>, Fault> {
         match (self.mark, self.number) {
             (0, number) => match N::narrow(number) {
-                Checked::Fits(n) => Ok(Checked::Fits(n)),
+                Checked::Fits(n) => Ok(Checked::new(n)),
                 Checked::Overflowed => Err(Fault::NotAllowed),
             },
-            (1, 0) => Ok(Checked::Overflowed),
+            (1, 0) => Ok(Checked::new_overflowed()),
             _ => Err(Fault::NotAllowed),
         }
     }
